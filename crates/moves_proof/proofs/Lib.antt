@@ -1,0 +1,4 @@
+pub mod Stuck
+pub mod Steps
+pub mod Runs
+pub mod Theorem
