@@ -10,7 +10,7 @@ use Rattle.base.specs.Choice.{pick}
 use Rattle.base.specs.Lists.{among, distinct}
 use Rattle.place.specs.Registers.{scratchOf, tmpOf, inPool}
 use Rattle.place.specs.Places.{slotsFrom}
-use Rattle.machine.specs.Machine.{State, World, run, runWords, holds}
+use Rattle.machine.specs.Machine.{State, World, runWords, holds}
 use Rattle.moves.specs.Moves.{moves, moveWords, turns}
 
 -- a pool register, or one of so many slots

@@ -3,7 +3,6 @@
 -- A list of moves is two columns of place numbers, sources and destinations.
 use Prim.Native.Nat.{ℕ, zero, suc, _+_, _-_}
 use mathlib.Core.List.{List, [], _∷_, _++_, map}
-use mathlib.Core.Bool.{Bool}
 use lib.ListN.{length, getD, take, set}
 use lib.Dec.{ltb, eqb}
 use Rattle.base.specs.Choice.{pick}

@@ -13,7 +13,7 @@ ghost use Rattle.op.specs.Words.{word};
 ghost use Rattle.moves.specs.Moves.{moveOps, firstReady, park, moveWords};
 
 // Is d one of the first n sources?
-pub fn is_source(src: &[u32], n: usize, d: u32) -> bool
+fn is_source(src: &[u32], n: usize, d: u32) -> bool
     requires { ⌜ n ≤ length (now src) ⌝ }
     ensures { λ r. ⌜ r ≡ among d (take n (now (src .entry))) ⌝ }
 {
@@ -28,7 +28,7 @@ pub fn is_source(src: &[u32], n: usize, d: u32) -> bool
 }
 
 // The first of n moves whose destination is no remaining source; n where there is none.
-pub fn first_ready(src: &[u32], dst: &[u32], n: usize) -> usize
+fn first_ready(src: &[u32], dst: &[u32], n: usize) -> usize
     requires { ⌜ (n ≤ length (now src)) × (n ≤ length (now dst)) ⌝ }
     ensures { λ r. ⌜ r ≡ firstReady (take n (now (src .entry))) (take n (now (dst .entry))) ⌝ }
 {
@@ -43,7 +43,7 @@ pub fn first_ready(src: &[u32], dst: &[u32], n: usize) -> usize
 }
 
 // Each of the first n sources that is x is read at sc instead.
-pub fn park_all(src: &mut [u32], n: usize, x: u32, sc: u32)
+fn park_all(src: &mut [u32], n: usize, x: u32, sc: u32)
     requires { ⌜ n ≤ length (now src) ⌝ }
     ensures { λ _. ⌜ take n (now (src .exit)) ≡ park x sc (take n (now (src .entry))) ⌝ }
 {
@@ -57,7 +57,7 @@ pub fn park_all(src: &mut [u32], n: usize, x: u32, sc: u32)
 }
 
 // The ops of one move.
-pub fn put_move(ops: &mut [u64], spans: &mut [u32], p: Pen, s: u32, d: u32) -> Pen
+fn put_move(ops: &mut [u64], spans: &mut [u32], p: Pen, s: u32, d: u32) -> Pen
     ensures { λ r. ⌜ ((l : List ℕ) → Lowers (emitAll (map word (moveOps (tmpOf registers) s d))) (now (ops .entry)) (now (spans .entry)) l p (now (ops .exit)) (now (spans .exit)) l r) ⌝ }
 {
     if s < 256 {

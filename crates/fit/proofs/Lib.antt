@@ -1,0 +1,4 @@
+pub mod Counts
+pub mod Checks
+pub mod Filling
+pub mod Ranks

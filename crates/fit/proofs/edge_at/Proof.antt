@@ -1,0 +1,43 @@
+-- The word at the table's start, the record's place in it, and the field's in that.
+use borrow.Author.Needs.{needs}
+use Rattle.input.specs.Layout.{edgeField}
+use Rattle.fit.proofs.edge_at.Statement.{statement}
+use Rattle.fit.proofs.edge_at.Tie as tie
+
+head-field-requires : tie.Need-head-field-requires
+head-field-requires c κs = search needs
+
+cast-from : tie.Need-cast-from
+cast-from c = search needs
+
+add-get32 : tie.Need-add-get32
+add-get32 c = search needs
+
+mul-get32 : tie.Need-mul-get32
+mul-get32 c = search needs
+
+add-get32-2 : tie.Need-add-get32-2
+add-get32-2 c = search needs
+
+add-get32-3 : tie.Need-add-get32-3
+add-get32-3 c = search needs
+
+get32-requires : tie.Need-get32-requires
+get32-requires c κs = search needs
+
+returns : tie.Need-returns
+unfolding edgeField
+returns c = cc
+
+pub edge-at-spec : {M : Type 1} → statement M
+edge-at-spec =
+    tie.close
+    (tie.spec
+    head-field-requires
+    cast-from
+    add-get32
+    mul-get32
+    add-get32-2
+    add-get32-3
+    get32-requires
+    returns)

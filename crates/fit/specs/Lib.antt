@@ -1,0 +1,4 @@
+pub mod Intervals
+pub mod Tabled
+pub mod Callees
+pub mod Keys

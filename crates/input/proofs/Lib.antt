@@ -1,0 +1,4 @@
+pub mod Chain
+pub mod Rows
+pub mod Each
+pub mod Words

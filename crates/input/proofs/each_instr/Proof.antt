@@ -1,0 +1,50 @@
+-- The invariant: the records from i on decide of all n.
+use mathlib.Core.Path.{sym, _∙_}
+use Prim.Native.Nat.{_-_}
+use borrow.Author.Needs.{needs}
+use borrow.Author.Tests.{not-true, not-false}
+use Rattle.input.specs.Forms.{instrOk}
+use Rattle.input.proofs.Each.{Passed, passed-start, passed-turn, passed-stop, passed-end}
+use Rattle.input.proofs.each_instr.Statement.{statement}
+use Rattle.input.proofs.each_instr.Tie as tie
+
+abbrev Inv-loop : tie.InvT-loop
+Inv-loop ws n i₀ i = Passed (instrOk ws) n i
+
+abbrev μ-loop : tie.MeasureT-loop
+μ-loop ws n i₀ i = n - i
+
+loop-holds : tie.Need-loop-holds Inv-loop μ-loop
+loop-holds c = passed-start _ _
+
+instr-ok-requires : tie.Need-instr-ok-requires Inv-loop μ-loop
+instr-ok-requires c κs = search needs
+
+returns : tie.Need-returns Inv-loop μ-loop
+returns c = passed-stop (c .before .before .before .loop .inv) (c .before .before .loop-test .taken) (sym (c .before .instr-ok .ensures) ∙ not-true _ (c .if1 .taken))
+
+add-i : tie.Need-add-i Inv-loop μ-loop
+add-i c = search needs
+
+loop-less : tie.Need-loop-less Inv-loop μ-loop
+loop-less c = search needs
+
+loop-again : tie.Need-loop-again Inv-loop μ-loop
+loop-again c = passed-turn (c .before .before .before .loop .inv) (c .before .before .loop-test .taken) (sym (c .before .instr-ok .ensures) ∙ not-false _ (c .if1 .left))
+
+returns-2 : tie.Need-returns-2 Inv-loop μ-loop
+returns-2 c = passed-end (c .before .loop .inv) (c .loop-test .left)
+
+pub each-instr-spec : {M : Type 1} → statement M
+each-instr-spec =
+    tie.close
+    (tie.spec
+    Inv-loop
+    μ-loop
+    loop-holds
+    instr-ok-requires
+    returns
+    add-i
+    loop-less
+    loop-again
+    returns-2)

@@ -1,0 +1,1 @@
+// Rows are a definition: specs/Rows.antt. Laws of loops over them stand in proofs/.
