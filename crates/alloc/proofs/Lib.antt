@@ -1,0 +1,12 @@
+pub mod Arrays
+pub mod Expiry
+pub mod Pool
+pub mod Counts
+pub mod Few
+pub mod Keeps
+pub mod Owned
+pub mod Live
+pub mod Outcome
+pub mod Examples
+pub mod Slots
+pub mod Regs

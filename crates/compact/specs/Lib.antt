@@ -1,0 +1,4 @@
+pub mod Compaction
+pub mod Entry
+pub mod Steps
+pub mod Theorems

@@ -1,0 +1,120 @@
+//! Lists of moves, and the ops that bc's `emit_parallel_move` gives for them.
+//!
+//! File: the number of lists; each list: n, then n pairs of place numbers (source, destination), then the number of ops, then each op's word,
+//! low half first. A place number is r for general register r, 256 + k for slot k.
+use crate::op::Op;
+use crate::random::Random;
+use crate::xralloc2::{Location, Reg};
+use std::alloc::{Allocator, Global};
+
+const REGISTER_COUNT: u8 = 32;
+const SCRATCH: u8 = REGISTER_COUNT - 1;
+const TMP: u8 = SCRATCH - 1;
+
+struct Cc<S: Allocator> {
+    buf: Vec<Op>,
+    pc_to_span: Vec<u32>,
+    cur_span: u32,
+    scratch_pairs: Vec<(Location, Location), S>,
+}
+
+include!(concat!(env!("OUT_DIR"), "/moves.rs"));
+
+fn location(place: u32) -> Location {
+    if place < 256 { Location::Reg(Reg::Gpr(place as u8)) } else { Location::Stack((place - 256) as u16) }
+}
+
+/// The word of an op, by docs/OPS.md.
+fn word(op: &Op) -> u64 {
+    match *op {
+        Op::Mov { dst, src } => 2 | (dst as u64) << 8 | (src as u64) << 16,
+        Op::StoreSlot { slot, src } => 24 | (src as u64) << 8 | (slot as u64) << 32,
+        Op::LoadSlot { dst, slot } => 25 | (dst as u64) << 8 | (slot as u64) << 32,
+        _ => unreachable!("a move is none of {op:?}"),
+    }
+}
+
+fn ops(list: &[(u32, u32)]) -> Vec<u64> {
+    let mut cc = Cc { buf: vec![], pc_to_span: vec![], cur_span: 7, scratch_pairs: Vec::new_in(Global) };
+    cc.emit_parallel_move(list.iter().map(|&(s, d)| (location(s), location(d))).collect());
+    cc.buf.iter().map(word).collect()
+}
+
+/// Places in some order: pool registers and slots, `slots` of them.
+fn places(random: &mut Random, slots: u32) -> Vec<u32> {
+    let mut all: Vec<u32> = (0..30).chain((0..slots).map(|k| 256 + k)).collect();
+    random.shuffle(&mut all);
+    all
+}
+
+/// Cycles of the given lengths over distinct places, the moves shuffled.
+fn cycles(random: &mut Random, slots: u32, lengths: &[usize]) -> Vec<(u32, u32)> {
+    let all = places(random, slots);
+    let (mut list, mut at) = (vec![], 0);
+    for &n in lengths {
+        for i in 0..n {
+            list.push((all[at + i], all[at + (i + 1) % n]));
+        }
+        at += n;
+    }
+    random.shuffle(&mut list);
+    list
+}
+
+fn chain(random: &mut Random, slots: u32, n: usize) -> Vec<(u32, u32)> {
+    let all = places(random, slots);
+    let mut list: Vec<_> = (0..n).map(|i| (all[i], all[i + 1])).collect();
+    random.shuffle(&mut list);
+    list
+}
+
+/// One source, many destinations, and one of them a source of its own.
+fn fan(random: &mut Random, slots: u32, n: usize) -> Vec<(u32, u32)> {
+    let all = places(random, slots);
+    let mut list: Vec<_> = (1..n).map(|i| (all[0], all[i])).collect();
+    list.push((all[1], all[0]));
+    random.shuffle(&mut list);
+    list
+}
+
+/// Distinct destinations, any sources, equal pairs dropped as edges and calls drop them.
+fn any(random: &mut Random) -> Vec<(u32, u32)> {
+    let slots = random.below(20);
+    let all = places(random, slots);
+    let n = random.below(all.len() as u32 + 1) as usize;
+    let reach = 1 + random.below(all.len() as u32);
+    (0..n).map(|i| (all[random.below(reach) as usize], all[i])).filter(|(s, d)| s != d).collect()
+}
+
+pub fn vectors() -> (Vec<u32>, String) {
+    let random = &mut Random::new(0x4f08286203);
+    // Document 01's examples 1 to 3, then the shapes that are hard, then any.
+    let mut lists = vec![
+        vec![(0, 1), (1, 0), (258, 5)],
+        vec![(0, 4), (1, 5), (2, 6)],
+        vec![(256, 257), (257, 256)],
+        vec![],
+    ];
+    for n in [2, 3, 4, 5, 10, 29, 30, 60, 100, 189, 190] {
+        lists.push(cycles(random, 256, &[n]));
+    }
+    for lengths in [&[2, 2][..], &[2, 3, 4], &[5, 5, 5, 5], &[2; 15], &[3; 50], &[95, 95], &[190]] {
+        lists.push(cycles(random, 226, lengths));
+    }
+    for n in [1, 2, 7, 29, 100, 190] {
+        lists.push(chain(random, 256, n));
+        lists.push(fan(random, 256, n));
+    }
+    lists.extend((0..250).map(|_| any(random)));
+
+    let (mut out, mut total) = (vec![lists.len() as u32], 0);
+    for list in &lists {
+        out.push(list.len() as u32);
+        out.extend(list.iter().flat_map(|&(s, d)| [s, d]));
+        let ops = ops(list);
+        total += ops.len();
+        out.push(ops.len() as u32);
+        out.extend(ops.iter().flat_map(|&w| [w as u32, (w >> 32) as u32]));
+    }
+    (out, format!("{} lists of moves, {total} ops, 0 differ", lists.len()))
+}
