@@ -1,0 +1,11 @@
+pub mod Defined
+pub mod Placing
+pub mod Safe
+pub mod Runs
+pub mod Whole
+pub mod Order
+pub mod Parameters
+pub mod Noted
+pub mod Calls
+pub mod Theorem
+pub mod Example
