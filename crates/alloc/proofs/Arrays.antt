@@ -1,11 +1,11 @@
 -- Laws of an array that starts with a list, and of an array of masks.
-use mathlib.Core.Path.{_≡_, refl, sym, ap, _∙_, subst}
+use mathlib.Core.Path.{_≡_, _∙_, subst}
 use mathlib.Core.Logic.{⊎-elim, _≢_}
 use mathlib.Core.List.{List, [], _∷_, _++_, append-assoc}
-use Prim.Native.Nat.{ℕ, suc, _+_, _-_, _^_, _≤_, _<_}
+use Prim.Native.Nat.{ℕ, suc, _+_, _-_, _≤_, _<_}
 use native.Mathlib.Omega.{arith}
 use native.Mathlib.Numerals.{add-one}
-use lib.ListN.{length, getD, take, drop, set, length-append, length-drop}
+use lib.ListN.{length, getD, drop, set, length-append, length-drop}
 use lib.Seq.{getD-append-add, getD-drop, drop-cons, set-append-seam, set-out, getD-set-same, getD-set-other}
 use Rattle.base.proofs.Numbers.{lt?, same?}
 use Rattle.alloc.specs.State.{over}

@@ -23,7 +23,7 @@ use Rattle.alloc.specs.declared.Entry.{Entry}
 use Rattle.alloc.specs.declared.Alloc.{Alloc}
 use Rattle.alloc.specs.State.{mostSlots, live, withActive, withSlots, over}
 use Rattle.alloc.specs.Allocation.{keptOf, goneOf, freeReg, freeSlot, release, releaseAll, expireOf, isFree, takeReg, entered}
-use Rattle.alloc.specs.Good.{bit, sameReg, same, occurs, stacked, freeOf, times, Shaped}
+use Rattle.alloc.specs.Good.{bit, same, occurs, stacked, freeOf, times, Shaped}
 use Rattle.alloc.proofs.Arrays.{set-below}
 use Rattle.alloc.proofs.Expiry.{isSlot, slotsIn, slots-gone, spares-release}
 

@@ -1,6 +1,6 @@
 -- Document 01, example 4: one general register, number 3; a value is placed at 0 with an end, then another at 5.
 use Prim.Native.Nat.{ℕ}
-use mathlib.Core.List.{List, [], _∷_}
+use mathlib.Core.List.{[], _∷_}
 use mathlib.Core.Path.{_≡_, refl}
 use Rattle.base.specs.Masks.{hasBit, withBit, withoutBit}
 use Rattle.place.specs.declared.Reg.the-variants.{Gpr}

@@ -1,5 +1,5 @@
 -- Places that are all different are few: at most 256 entries, and at most as many slots as were made.
-use mathlib.Core.Path.{_≡_, refl, sym, ap, _∙_}
+use mathlib.Core.Path.{_≡_, refl}
 use mathlib.Core.Bool.{Bool, true, false}
 use mathlib.Core.List.{List, [], _∷_}
 use Prim.Native.Nat.{ℕ, zero, suc, _+_, _≤_, _<_}
@@ -14,7 +14,7 @@ use Rattle.place.specs.declared.Place.the-variants.{Slot, Register}
 use Rattle.alloc.specs.declared.Entry.{Entry}
 use Rattle.alloc.specs.declared.Alloc.{Alloc}
 use Rattle.alloc.specs.State.{mostActive, mostSlots, live, freeSlots}
-use Rattle.alloc.specs.Good.{bit, same, occurs, stacked, freeOf, times, Shaped, Known, Good}
+use Rattle.alloc.specs.Good.{bit, same, occurs, stacked, freeOf, times, Known, Good}
 use Rattle.alloc.proofs.Expiry.{isSlot, slotsIn}
 use Rattle.alloc.proofs.Counts.{same-self}
 

@@ -6,10 +6,10 @@ use mathlib.Core.List.{List, [], _∷_, _++_}
 use Prim.Native.Nat.{ℕ, zero, suc, _+_, _-_, _^_, _≤_, _<_}
 use native.Mathlib.Omega.{arith}
 use lib.Dec.{leb, ltb, eqb}
-use lib.ListN.{length, getD, take, set, length-append, length-take, length-replicate, List·getD-eq-default}
+use lib.ListN.{length, getD, length-append, length-take, length-replicate, List·getD-eq-default}
 use lib.Seq.{length-take-le}
 use lib.Pow.{pow-pos}
-use borrow.Author.Tests.{ltb-true, ltb-false, leb-true, leb-false, eqb-true, eqb-false, eq-eqb, ne-eqb}
+use borrow.Author.Tests.{ltb-true, leb-false, eqb-true, eqb-false}
 use Rattle.base.specs.Choice.{pick}
 use Rattle.base.specs.Masks.{hasBit}
 use Rattle.base.proofs.Masks.{has-none}
@@ -30,13 +30,13 @@ use Rattle.alloc.specs.declared.Hint.the-variants as hint
 use Rattle.alloc.specs.declared.Got.{Got}
 use Rattle.alloc.specs.declared.Got.the-variants as got
 use Rattle.alloc.specs.declared.Taken.{Taken}
-use Rattle.alloc.specs.State.{mostActive, mostSlots, live, withSlots, over, maskOf, freshOf, emptyEntry}
+use Rattle.alloc.specs.State.{mostActive, mostSlots, live, withSlots, maskOf, freshOf, emptyEntry}
 use Rattle.alloc.specs.Allocation.{keptOf, goneOf, expireOf, isFree, takeReg, lastFree, takeSlot, fromPool, hinted, takeOf, entered, enter, newPlace, placeOf, placeAgain, pinOf}
 use Rattle.alloc.specs.Good.{bit, same, occurs, stacked, freeOf, times, Shaped, Known, Good}
 use Rattle.alloc.proofs.Arrays.{length-over}
-use Rattle.alloc.proofs.Expiry.{length-kept, slotsIn, slots-gone, live-expire, expire-made, expire-spares, expire-count}
+use Rattle.alloc.proofs.Expiry.{length-kept, slotsIn, slots-gone, expire-made, expire-spares, expire-count}
 use Rattle.alloc.proofs.Pool.{IsIn, last-in, mask-lt}
-use Rattle.alloc.proofs.Counts.{same-self, bit-le, occurs-append, occurs-one, free-low, shaped-all, shaped-reg, shaped-slots, shaped-entered, expire-times, live-entered, entered-times, take-free, pop-free, new-free}
+use Rattle.alloc.proofs.Counts.{bit-le, occurs-append, occurs-one, free-low, shaped-all, shaped-reg, shaped-slots, shaped-entered, expire-times, entered-times, take-free, pop-free, new-free}
 use Rattle.alloc.proofs.Few.{few, room}
 
 -- ---- a fresh state

@@ -1,5 +1,5 @@
 -- Laws of the registers that active entries hold past a row.
-use mathlib.Core.Path.{_≡_, refl, sym, ap, _∙_}
+use mathlib.Core.Path.{_≡_, refl, ap, _∙_}
 use mathlib.Core.Logic.{⊎-elim, _≢_}
 use mathlib.Core.Bool.{Bool, true, false}
 use mathlib.Core.List.{List, [], _∷_}
@@ -9,7 +9,7 @@ use native.Mathlib.Numerals.{add-one}
 use lib.Dec.{leb, ltb, eqb}
 use lib.ListN.{length, getD, drop, length-take, drop-of-length-le}
 use lib.Seq.{drop-cons, getD-take, length-take-le}
-use borrow.Author.Tests.{ltb-true, ltb-false, leb-false, lt-ltb, eqb-true, eqb-false, eq-eqb}
+use borrow.Author.Tests.{leb-false, lt-ltb, eqb-true}
 use Rattle.base.specs.Choice.{pick}
 use Rattle.base.specs.Masks.{hasBit, withBit}
 use Rattle.base.proofs.Masks.{has-with-same, has-with-other, with-has}

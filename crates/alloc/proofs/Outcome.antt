@@ -1,11 +1,11 @@
 -- What a placement and a pin do, for whoever places one value after the other: nothing, or one entry more, whose place no kept entry has.
 use mathlib.Core.Path.{_≡_, refl, sym, ap, _∙_}
-use mathlib.Core.Bool.{Bool, true, false}
+use mathlib.Core.Bool.{true, false}
 use mathlib.Core.List.{List, [], _∷_, _++_}
-use Prim.Native.Nat.{ℕ, _+_, _≤_, _<_}
+use Prim.Native.Nat.{ℕ, _+_, _≤_}
 use native.Mathlib.Omega.{arith}
 use lib.Dec.{leb, ltb}
-use lib.ListN.{length, getD, set}
+use lib.ListN.{getD, set}
 use Rattle.base.proofs.Numbers.{pick-both}
 use Rattle.place.specs.declared.Reg.{Reg}
 use Rattle.place.specs.declared.Reg.the-variants.{Gpr, Fpr}
@@ -23,9 +23,9 @@ use Rattle.alloc.specs.declared.Hint.the-variants as hint
 use Rattle.alloc.specs.declared.Got.{Got}
 use Rattle.alloc.specs.declared.Got.the-variants as got
 use Rattle.alloc.specs.declared.Taken.{Taken}
-use Rattle.alloc.specs.State.{mostActive, mostSlots, live}
+use Rattle.alloc.specs.State.{mostSlots, live}
 use Rattle.alloc.specs.Allocation.{keptOf, expireOf, isFree, takeReg, lastFree, takeSlot, fromPool, hinted, takeOf, took, entered, enter, mapEntered, newPlace, placeAgain, mapAgain, placeOf, mapAfterPlace, pinOf, mapAfterPin}
-use Rattle.alloc.specs.Good.{same, occurs, times, Known, Good}
+use Rattle.alloc.specs.Good.{occurs, Known, Good}
 use Rattle.alloc.proofs.Expiry.{kept-append, kept-kept, live-expire}
 use Rattle.alloc.proofs.Counts.{same-self, occurs-kept, live-entered}
 use Rattle.alloc.proofs.Keeps.{known-more, Pending, PendingFor, pending-room, pending-reg, take-ok, good-expire}
@@ -80,6 +80,34 @@ unfolding placeOf mapAfterPlace
 map-full map id class at end h pool s e =
     full-again map s (foundOf (getD map id 0)) (newPlace class at end h pool s) _ e
     (λ q. full-entered map id (takeOf class h pool (expireOf at s) .got) (sym (new-got class at end h pool s) ∙ q))
+
+-- ---- the code's way to a new place: expire, take, then enter what was got
+module _ (map : List ℕ) (id class at end : ℕ) (h : Hint) (pool : List ℕ) (s x : Alloc) (t : Taken) (ex : x ≡ expireOf at s) (et : t ≡ takeOf class h pool x) where
+  taken : t ≡ takeOf class h pool (expireOf at s)
+  taken = et ∙ ap (takeOf class h pool) ex
+
+  pub new-at : (p : Place) (last : Alloc) (w : ℕ) (m : List ℕ) → t .got ≡ got.At p → last ≡ entered (record { end = end; place = p }) (t .state)
+      → w ≡ wordOf (found.At p) → m ≡ set map id w
+      → (took last (got.At p) ≡ newPlace class at end h pool s) × (m ≡ mapEntered map id (takeOf class h pool (expireOf at s) .got))
+  unfolding newPlace enter mapEntered
+  new-at p last w m g e q k = (rw (← taken, g, e), rw (← taken, g, k, q))
+
+  pub new-none : t .got ≡ got.NoSlot → (took s got.NoSlot ≡ newPlace class at end h pool s) × (map ≡ mapEntered map id (takeOf class h pool (expireOf at s) .got))
+  unfolding newPlace enter mapEntered
+  new-none g = (rw (← taken, g), rw (← taken, g))
+
+-- the code's way to a place: what the map's word says, else a new one
+module _ (map : List ℕ) (id class at end : ℕ) (h : Hint) (pool : List ℕ) (s : Alloc) (f : Found) (w : ℕ) (ef : f ≡ foundOf w) (ew : w ≡ getD map id 0) where
+  pub place-at : (p : Place) → f ≡ found.At p
+      → (took s (got.At p) ≡ placeOf map id class at end h pool s) × (map ≡ mapAfterPlace map id class at h pool s)
+  unfolding placeOf mapAfterPlace
+  place-at p e = (rw (← ew, ← ef, e), rw (← ew, ← ef, e))
+
+  pub place-new : f ≡ found.Nowhere → (t : Taken) (m : List ℕ)
+      → (t ≡ newPlace class at end h pool s) × (m ≡ mapEntered map id (takeOf class h pool (expireOf at s) .got))
+      → (t ≡ placeOf map id class at end h pool s) × (m ≡ mapAfterPlace map id class at h pool s)
+  unfolding placeOf mapAfterPlace
+  place-new e t m q = (rw (← ew, ← ef, e) (q .0), rw (← ew, ← ef, e) (q .1))
 
 -- ---- one entry more
 abbrev pub entry : ℕ → Place → Entry

@@ -1,15 +1,14 @@
 -- No step brings a register in: one that is active or free after it was so before.
-use mathlib.Core.Path.{_≡_, refl, sym, ap, _∙_}
-use mathlib.Core.Bool.{Bool, true, false}
-use mathlib.Core.List.{List, [], _∷_}
-use Prim.Native.Nat.{ℕ, _+_, _-_, _≤_, _<_}
+use mathlib.Core.Path.{_≡_, refl}
+use mathlib.Core.Bool.{true}
+use mathlib.Core.List.{List}
+use Prim.Native.Nat.{ℕ, _+_, _-_, _≤_}
 use native.Mathlib.Omega.{arith}
 use lib.Dec.{leb, ltb}
-use lib.ListN.{length, getD}
+use lib.ListN.{getD}
 use Rattle.base.proofs.Numbers.{pick-both, pick-case}
 use Rattle.place.specs.declared.Reg.{Reg}
-use Rattle.place.specs.declared.Place.{Place}
-use Rattle.place.specs.declared.Place.the-variants.{Slot, Register}
+use Rattle.place.specs.declared.Place.the-variants.{Register}
 use Rattle.place.specs.declared.Found.{Found}
 use Rattle.place.specs.declared.Found.the-variants as found
 use Rattle.place.specs.Places.{regOf, foundOf}
@@ -23,7 +22,7 @@ use Rattle.alloc.specs.declared.Got.{Got}
 use Rattle.alloc.specs.declared.Got.the-variants as got
 use Rattle.alloc.specs.declared.Taken.{Taken}
 use Rattle.alloc.specs.State.{mostSlots, live, withSlots}
-use Rattle.alloc.specs.Allocation.{expireOf, isFree, takeReg, lastFree, takeSlot, fromPool, hinted, takeOf, entered, enter, newPlace, placeOf, placeAgain, pinOf}
+use Rattle.alloc.specs.Allocation.{expireOf, isFree, takeReg, lastFree, takeSlot, fromPool, hinted, takeOf, enter, newPlace, placeOf, placeAgain, pinOf}
 use Rattle.alloc.specs.Good.{same, freeOf, times, Good}
 use Rattle.alloc.proofs.Counts.{expire-times, entered-times, take-free}
 use Rattle.alloc.proofs.Few.{room}

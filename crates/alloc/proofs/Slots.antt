@@ -1,7 +1,7 @@
 -- Every slot that was made is free or held. So where a placement finds none, all 128 are held by entries that last, and no register of the pool is free.
 use mathlib.Core.Path.{_≡_, refl, sym, ap, _∙_}
 use mathlib.Core.Bool.{Bool, true, false}
-use mathlib.Core.List.{List, [], _∷_, _++_}
+use mathlib.Core.List.{List, [], _∷_}
 use Prim.Native.Nat.{ℕ, _+_, _-_, _≤_, _<_}
 use native.Mathlib.Omega.{arith}
 use lib.Dec.{leb, ltb, eqb}
@@ -12,8 +12,7 @@ use Rattle.base.specs.Lists.{among}
 use Rattle.base.specs.Masks.{hasBit}
 use Rattle.base.proofs.Numbers.{pick-both, pick-case}
 use Rattle.place.specs.declared.Reg.{Reg}
-use Rattle.place.specs.declared.Place.{Place}
-use Rattle.place.specs.declared.Place.the-variants.{Slot, Register}
+use Rattle.place.specs.declared.Place.the-variants.{Register}
 use Rattle.place.specs.declared.Found.{Found}
 use Rattle.place.specs.declared.Found.the-variants as found
 use Rattle.place.specs.Places.{foundOf}
@@ -26,13 +25,13 @@ use Rattle.alloc.specs.declared.Hint.the-variants as hint
 use Rattle.alloc.specs.declared.Got.{Got}
 use Rattle.alloc.specs.declared.Got.the-variants as got
 use Rattle.alloc.specs.declared.Taken.{Taken}
-use Rattle.alloc.specs.State.{mostActive, mostSlots, live, freshOf}
+use Rattle.alloc.specs.State.{mostSlots, live, freshOf}
 use Rattle.alloc.specs.Allocation.{keptOf, goneOf, expireOf, isFree, takeReg, lastFree, orElse, takeSlot, fromPool, hinted, takeOf, entered, enter, newPlace, placeOf, placeAgain, pinOf}
 use Rattle.alloc.specs.Good.{Good}
 use Rattle.alloc.proofs.Expiry.{isSlot, slotsIn, slots-append, live-expire, expire-made, expire-spares}
 use Rattle.alloc.proofs.Counts.{live-entered}
-use Rattle.alloc.proofs.Keeps.{PendingFor, TakenOk, pending-room, pending-reg, take-ok, good-expire}
-use Rattle.alloc.proofs.Outcome.{take-live, new-got}
+use Rattle.alloc.proofs.Keeps.{PendingFor, pending-room, pending-reg, take-ok, good-expire}
+use Rattle.alloc.proofs.Outcome.{new-got}
 
 -- every slot that was made is free or held
 abbrev pub NoneLost : Alloc → Type 0

@@ -48,16 +48,18 @@ pub struct Taken {
 }
 
 // The last register of the pool that is in the mask.
-pub fn last_free(m: u64, pool: &[u8]) -> Ready
+fn last_free(m: u64, pool: &[u8]) -> Ready
     ensures { λ r. ⌜ r ≡ lastFree m (now (pool .entry)) ⌝ }
 {
-    let mut i = pool.len();
+    let n = pool.len();
+    let mut i = n;
     while 0 < i {
-        i -= 1;
-        let r = pool[i];
+        let at = i - 1;
+        let r = pool[at];
         if base::has(m, r) {
             return Ready::At(r);
         }
+        i -= 1;
     }
     Ready::Nothing
 }
@@ -94,7 +96,8 @@ fn noted(class: usize, p: Place, m: u64) -> u64
 impl Alloc {
     // Every register of the pools is free.
     pub fn new(gprs: &[u8], fprs: &[u8]) -> Self
-        ensures { λ x. ⌜ (x ≡ freshOf (now (gprs .entry)) (now (fprs .entry))) × Good x ⌝ }
+        ensures { λ x. ⌜ x ≡ freshOf (now (gprs .entry)) (now (fprs .entry)) ⌝ }
+        ensures { λ x. ⌜ Good x ⌝ }
     {
         let empty = Entry {
             end: 0,
@@ -117,7 +120,7 @@ impl Alloc {
         }
     }
 
-    pub fn free_reg(mut self, r: Reg) -> Self
+    fn free_reg(mut self, r: Reg) -> Self
         ensures { λ x. ⌜ x ≡ freeReg r self ⌝ }
     {
         let c = place::class_of(r);
@@ -127,7 +130,7 @@ impl Alloc {
         self
     }
 
-    pub fn free_slot(mut self, k: u16) -> Self
+    fn free_slot(mut self, k: u16) -> Self
         requires { ⌜ self .spares < mostSlots ⌝ }
         ensures { λ x. ⌜ x ≡ freeSlot k self ⌝ }
     {
@@ -137,7 +140,7 @@ impl Alloc {
         self
     }
 
-    pub fn release(self, p: Place) -> Self
+    fn release(self, p: Place) -> Self
         requires { ⌜ Releasable p self ⌝ }
         ensures { λ x. ⌜ x ≡ release p self ⌝ }
     {
@@ -150,7 +153,8 @@ impl Alloc {
     // Entries that end at or before `at` leave in list order; the others close up in place.
     pub fn expire(mut self, at: u32) -> Self
         requires { ⌜ Good self ⌝ }
-        ensures { λ x. ⌜ (x ≡ expireOf at self) × Good x ⌝ }
+        ensures { λ x. ⌜ x ≡ expireOf at self ⌝ }
+        ensures { λ x. ⌜ Good x ⌝ }
     {
         let n = self.count;
         let mut kept = 0;
@@ -179,7 +183,7 @@ impl Alloc {
         base::has(m, k)
     }
 
-    pub fn take_reg(mut self, r: Reg) -> Self
+    fn take_reg(mut self, r: Reg) -> Self
         ensures { λ x. ⌜ x ≡ takeReg r self ⌝ }
     {
         let c = place::class_of(r);
@@ -192,7 +196,7 @@ impl Alloc {
     }
 
     // The top free slot, else a new one.
-    pub fn take_slot(mut self) -> Taken
+    fn take_slot(mut self) -> Taken
         requires { ⌜ self .spares ≤ mostSlots ⌝ }
         ensures { λ x. ⌜ x ≡ takeSlot self ⌝ }
     {
@@ -221,7 +225,7 @@ impl Alloc {
     }
 
     // The last free register of the pool, else a slot.
-    pub fn from_pool(self, class: usize, pool: &[u8]) -> Taken
+    fn from_pool(self, class: usize, pool: &[u8]) -> Taken
         requires { ⌜ (class < 2) × (self .spares ≤ mostSlots) ⌝ }
         ensures { λ x. ⌜ x ≡ fromPool class (lastFree (getD (self .free) class 0) (now (pool .entry))) self ⌝ }
     {
@@ -240,14 +244,11 @@ impl Alloc {
     }
 
     // Is the hint of the class, and free?
-    pub fn hinted(self, class: usize, r: Reg) -> bool
+    fn hinted(self, class: usize, r: Reg) -> bool
         ensures { λ x. ⌜ x ≡ hinted class r self ⌝ }
     {
-        if place::class_of(r) == class {
-            self.is_free(r)
-        } else {
-            false
-        }
+        let own = place::class_of(r);
+        if own == class { self.is_free(r) } else { false }
     }
 
     // The hint where it may be taken, else from the pool.
@@ -272,7 +273,7 @@ impl Alloc {
     }
 
     // One active entry more.
-    pub fn push(mut self, e: Entry) -> Self
+    fn push(mut self, e: Entry) -> Self
         requires { ⌜ self .count < mostActive ⌝ }
         ensures { λ x. ⌜ x ≡ entered e self ⌝ }
     {
@@ -283,7 +284,7 @@ impl Alloc {
     }
 
     // A place for an id that has none: first expire, then take. Where there is none the state stays as it was.
-    pub fn place_new(
+    fn place_new(
         self,
         map: &mut [u32],
         id: usize,
@@ -348,11 +349,11 @@ impl Alloc {
         ensures { λ x. ⌜ Good x ⌝ }
     {
         if self.is_free(r) {
-            let s = self.take_reg(r);
+            let taken = self.take_reg(r);
             let p = Place::Register(r);
             base::set32(map, id, place::word_of(Found::At(p)));
             let e = Entry { end: end, place: p };
-            return s.push(e);
+            return taken.push(e);
         }
         self
     }

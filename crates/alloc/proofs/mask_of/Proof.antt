@@ -32,10 +32,15 @@ loop-less : tie.Need-loop-less Inv-loop μ-loop
 loop-less c = omega arith
 
 loop-again : tie.Need-loop-again Inv-loop μ-loop
-loop-again c = (omega arith, rw (c .with .ensures) (sym (mask-turn (c .before .before .before .loop .m) (now (c .before .before .before .before .before .args .pool)) (c .before .before .before .loop .i) (omega arith)) ∙ c .before .before .before .loop .inv .1))
+loop-again c =
+    let b3 = c .before .before .before in
+    let b5 = b3 .before .before in
+    (omega arith, rw (c .with .ensures) (sym (mask-turn (b3 .loop .m) (now (b5 .args .pool)) (b3 .loop .i) (omega arith)) ∙ b3 .loop .inv .1))
 
 returns : tie.Need-returns Inv-loop μ-loop
-returns c = sym (mask-end (c .before .loop .m) (now (c .before .before .before .args .pool)) (c .before .loop .i) (omega arith)) ∙ c .before .loop .inv .1
+returns c =
+    let b3 = c .before .before .before in
+    sym (mask-end (c .before .loop .m) (now (b3 .args .pool)) (c .before .loop .i) (omega arith)) ∙ c .before .loop .inv .1
 
 pub mask-of-spec : {M : Type 1} → statement M
 mask-of-spec =

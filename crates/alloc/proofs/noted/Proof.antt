@@ -24,7 +24,11 @@ returns : tie.Need-returns
 returns c = search needs
 
 returns-2 : tie.Need-returns-2
-returns-2 c = rw (c .before .before .before .before .before .p .given .1, eq-eqb _ _ (sym (c .before .before .before .class-of .ensures .0) ∙ c .before .before .if1 .taken), c .with .ensures, c .before .index-of .ensures)
+returns-2 c =
+    let b2 = c .before .before in
+    let b3 = b2 .before in
+    let b5 = b3 .before .before in
+    rw (b5 .p .given .1, eq-eqb _ _ (sym (b3 .class-of .ensures .0) ∙ b2 .if1 .taken), c .with .ensures, c .before .index-of .ensures)
 
 returns-3 : tie.Need-returns-3
 returns-3 c = rw (c .before .before .before .p .given .1, ne-eqb _ _ (λ q. c .if1 .left (c .before .class-of .ensures .0 ∙ q)))

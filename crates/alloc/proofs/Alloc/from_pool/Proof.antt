@@ -31,7 +31,10 @@ take-slot-requires c κs = search needs
 
 returns : tie.Need-returns
 unfolding fromPool
-returns c = simp (c .take-reg .ensures, c .before .reg-of .ensures, sym (c .before .before .before .before .before .last-free .ensures) ∙ c .before .before .before .k .given .1)
+returns c =
+    let b3 = c .before .before .before in
+    let b5 = b3 .before .before in
+    simp (c .take-reg .ensures, c .before .reg-of .ensures, sym (b5 .last-free .ensures) ∙ b3 .k .given .1)
 
 returns-2 : tie.Need-returns-2
 unfolding fromPool

@@ -38,17 +38,22 @@ loop-less : tie.Need-loop-less Inv-loop μ-loop
 loop-less c = omega arith
 
 loop-again : tie.Need-loop-again Inv-loop μ-loop
-loop-again c = let a = c .before .before .before .before .before .args in
+loop-again c =
+    let b4 = c .before .before .before .before in
+    let b5 = b4 .before in
+    let a = b5 .args in
     let s = a .t1 in
-    let l = c .before .before .before .before .loop in
-    let t = live-turn (a .class) (a .row) s (l .i) (l .m) (omega arith) (omega (arith, c .before .before .before .before .before .pre, shaped s _ (c .before .before .before .before .before .good .0) .actives)) in
+    let l = b4 .loop in
+    let t = live-turn (a .class) (a .row) s (l .i) (l .m) (omega arith) (omega (arith, b5 .pre, shaped s _ (b5 .good .0) .actives)) in
     ⊎-elim
     (λ w. (omega arith, rw (w .2, w .1 .ensures) (rw (lt-ltb _ _ (w .0 .taken)) at (sym t ∙ l .inv .1))))
     (λ w. (omega arith, rw (w .1) (rw (le-ltb _ _ (w .0 .left)) at (sym t ∙ l .inv .1))))
     (c .if1 .came)
 
 returns : tie.Need-returns Inv-loop μ-loop
-returns c = sym (live-end (c .before .before .args .class) (c .before .before .args .row) (c .before .before .args .t1) (c .before .loop .i) (c .before .loop .m) (omega arith)) ∙ c .before .loop .inv .1
+returns c =
+    let b2 = c .before .before in
+    sym (live-end (b2 .args .class) (b2 .args .row) (b2 .args .t1) (c .before .loop .i) (c .before .loop .m) (omega arith)) ∙ c .before .loop .inv .1
 
 pub live-after-spec : {M : Type 1} → statement M
 live-after-spec =

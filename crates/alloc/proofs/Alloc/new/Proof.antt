@@ -15,7 +15,9 @@ mask-of-requires-2 c κs = search needs
 
 returns : tie.Need-returns
 unfolding freshOf
-returns c = rw (c .mask-of2 .ensures, c .before .mask-of .ensures) (refl, good-fresh (now (c .before .before .before .before .args .gprs)) (now (c .before .before .before .before .args .fprs)))
+returns c =
+    let b4 = c .before .before .before .before in
+    rw (c .mask-of2 .ensures, c .before .mask-of .ensures) (refl, good-fresh (now (b4 .args .gprs)) (now (b4 .args .fprs)))
 
 pub new-spec : {M : Type 1} → statement M
 new-spec = tie.close (tie.spec mask-of-requires mask-of-requires-2 returns)

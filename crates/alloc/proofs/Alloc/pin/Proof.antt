@@ -19,17 +19,29 @@ set32-requires : tie.Need-set32-requires
 set32-requires c κs = search needs
 
 push-requires : tie.Need-push-requires
-push-requires c κs = rw (c .before .before .before .before .before .take-reg .ensures) (pin-room (c .before .before .before .before .before .before .before .before .before .args .r) (c .before .before .before .before .before .before .before .before .before .args .self) (c .before .before .before .before .before .before .before .before .before .pre) (sym (c .before .before .before .before .before .before .before .is-free .ensures) ∙ c .before .before .before .before .before .before .if1 .taken))
+push-requires c κs =
+    let b5 = c .before .before .before .before .before in
+    let b6 = b5 .before in
+    let b7 = b6 .before in
+    let b9 = b7 .before .before in
+    rw (b5 .take-reg .ensures) (pin-room (b9 .args .r) (b9 .args .self) (b9 .pre) (sym (b7 .is-free .ensures) ∙ b6 .if1 .taken))
 
 same-length : tie.Need-same-length
 same-length c = search needs
 
 returns : tie.Need-returns
 unfolding pinOf mapAfterPin
-returns c = let a = c .before .before .before .before .before .before .before .before .before .before .args in
-    let q = sym (c .before .before .before .before .before .before .before .before .is-free .ensures) ∙ c .before .before .before .before .before .before .before .if1 .taken in
-    let e : c .push .result ≡ pinOf (a .r) (a .end) (a .self) = rw (q, c .push .ensures, c .before .before .before .before .before .before .take-reg .ensures) in
-    ((e, rw (q, c .before .before .before .set32 .ensures, c .before .before .before .before .word-of .ensures .0)), rw e (good-pin (a .r) (a .end) (a .self) (c .before .before .before .before .before .before .before .before .before .before .pre)))
+returns c =
+    let b3 = c .before .before .before in
+    let b4 = b3 .before in
+    let b6 = b4 .before .before in
+    let b7 = b6 .before in
+    let b8 = b7 .before in
+    let b10 = b8 .before .before in
+    let a = b10 .args in
+    let q = sym (b8 .is-free .ensures) ∙ b7 .if1 .taken in
+    let e : c .push .result ≡ pinOf (a .r) (a .end) (a .self) = rw (q, c .push .ensures, b6 .take-reg .ensures) in
+    ((e, rw (q, b3 .set32 .ensures, b4 .word-of .ensures .0)), rw e (good-pin (a .r) (a .end) (a .self) (b10 .pre)))
 
 returns-2 : tie.Need-returns-2
 unfolding pinOf mapAfterPin

@@ -1,10 +1,8 @@
 -- `place`: by what the map's word says of the id.
-use mathlib.Core.Path.{sym, ap, _∙_}
-use denote.Ref.{now}
-use Rattle.alloc.specs.Allocation.{placeOf, mapAfterPlace}
-use Rattle.place.specs.Places.{foundOf}
-use Rattle.alloc.proofs.Keeps.{good-new}
 use borrow.Author.Needs.{needs}
+use denote.Ref.{now}
+use Rattle.alloc.proofs.Keeps.{good-new}
+use Rattle.alloc.proofs.Outcome.{place-at, place-new}
 use Rattle.alloc.proofs.Alloc.place.Statement.{statement}
 use Rattle.alloc.proofs.Alloc.place.Tie as tie
 
@@ -27,19 +25,27 @@ same-length : tie.Need-same-length
 same-length c = search needs
 
 returns : tie.Need-returns
-unfolding placeOf mapAfterPlace
-returns c = let q = sym (c .before .before .before .found-of .ensures ∙ ap foundOf (c .before .before .before .before .get32 .ensures)) ∙ c .before .p .given .1 in
-    ((rw q, rw q), c .before .before .before .before .before .before .before .before .pre .1)
+returns c =
+    let b3 = c .before .before .before in
+    let b4 = b3 .before in
+    let b8 = b4 .before .before .before .before in
+    let a = b8 .args in
+    (place-at (now (a .map)) (a .id) (a .class) (a .at) (a .end) (a .hint) (now (a .pool)) (a .self) _ _ (b3 .found-of .ensures) (b4 .get32 .ensures) _ (c .before .p .given .1), b8 .pre .1)
 
 same-length-2 : tie.Need-same-length-2
 same-length-2 c = search needs
 
 returns-2 : tie.Need-returns-2
-unfolding placeOf mapAfterPlace
-returns-2 c = let a = c .before .before .before .before .before .before .before .before .before .before .before .args in
-    let q = sym (c .before .before .before .before .before .before .found-of .ensures ∙ ap foundOf (c .before .before .before .before .before .before .before .get32 .ensures)) ∙ c .before .before .before .before .enum-told .given .1 in
-    let e = c .before .before .place-new .ensures in
-    ((rw q (e .0), rw q (e .1)), rw (e .0) (good-new (a .class) (a .at) (a .end) (a .hint) (now (a .pool)) (a .self) (c .before .before .before .before .before .before .before .before .before .before .before .pre .1)))
+returns-2 c =
+    let b2 = c .before .before in
+    let b4 = b2 .before .before in
+    let b6 = b4 .before .before in
+    let b7 = b6 .before in
+    let b11 = b7 .before .before .before .before in
+    let a = b11 .args in (
+      place-new (now (a .map)) (a .id) (a .class) (a .at) (a .end) (a .hint) (now (a .pool)) (a .self) _ _ (b6 .found-of .ensures) (b7 .get32 .ensures) (b4 .enum-told .given .1) _ _ (b2 .place-new .ensures),
+      rw (b2 .place-new .ensures .0) (good-new (a .class) (a .at) (a .end) (a .hint) (now (a .pool)) (a .self) (b11 .pre .1)),
+    )
 
 pub place-spec : {M : Type 1} → statement M
 place-spec =

@@ -1,10 +1,8 @@
 -- `place_new`: by what `take` got; a good state that gave a place has room for one entry more.
-use mathlib.Core.Path.{_≡_, sym, ap, _∙_}
-use denote.Ref.{now}
-use Rattle.alloc.specs.declared.Taken.{Taken}
-use Rattle.alloc.specs.Allocation.{expireOf, takeOf, enter, mapEntered, newPlace}
-use Rattle.alloc.proofs.Keeps.{taken-room}
 use borrow.Author.Needs.{needs}
+use denote.Ref.{now}
+use Rattle.alloc.proofs.Keeps.{taken-room}
+use Rattle.alloc.proofs.Outcome.{new-at, new-none}
 use Rattle.alloc.proofs.Alloc.place_new.Statement.{statement}
 use Rattle.alloc.proofs.Alloc.place_new.Tie as tie
 
@@ -24,8 +22,13 @@ set32-requires : tie.Need-set32-requires
 set32-requires c κs = search needs
 
 push-requires : tie.Need-push-requires
-push-requires c κs = let a = c .before .before .before .before .before .before .before .before .before .before .before .before .before .args in
-    taken-room (a .class) (a .hint) (now (a .pool)) (c .before .before .before .before .before .before .before .before .before .before .expire .result) (c .before .before .before .before .before .before .before .before .before .take .result) _ (c .before .before .before .before .before .before .before .before .before .before .expire .ensures .1) (c .before .before .before .before .before .before .before .before .before .take .ensures) (c .before .before .before .before .before .before .got .given .1)
+push-requires c κs =
+    let b6 = c .before .before .before .before .before .before in
+    let b9 = b6 .before .before .before in
+    let b10 = b9 .before in
+    let b13 = b10 .before .before .before in
+    let a = b13 .args in
+    taken-room (a .class) (a .hint) (now (a .pool)) (b10 .expire .result) (b9 .take .result) _ (b10 .expire .ensures .1) (b9 .take .ensures) (b6 .got .given .1)
 
 enum-told : tie.Need-enum-told
 enum-told c = search needs
@@ -34,20 +37,23 @@ same-length : tie.Need-same-length
 same-length c = search needs
 
 returns : tie.Need-returns
-unfolding newPlace enter mapEntered
-returns c = let a = c .before .before .before .before .before .before .before .before .before .before .before .before .before .before .args in
-    let e : c .before .before .before .before .before .before .before .before .before .before .take .result ≡ takeOf (a .class) (a .hint) (now (a .pool)) (expireOf (a .at) (a .self)) =
-    c .before .before .before .before .before .before .before .before .before .before .take .ensures ∙ ap (takeOf (a .class) (a .hint) (now (a .pool))) (c .before .before .before .before .before .before .before .before .before .before .before .expire .ensures .0) in
-    let q = sym (ap (λ (x : Taken). x .got) e) ∙ c .before .before .before .before .before .before .before .got .given .1 in
-    (rw (q, c .push .ensures, e), rw (q, c .before .before .before .set32 .ensures, c .before .before .before .before .word-of .ensures .0))
+returns c =
+    let b3 = c .before .before .before in
+    let b4 = b3 .before in
+    let b7 = b4 .before .before .before in
+    let b10 = b7 .before .before .before in
+    let b11 = b10 .before in
+    let b14 = b11 .before .before .before in
+    let a = b14 .args in
+    new-at (now (a .map)) (a .id) (a .class) (a .at) (a .end) (a .hint) (now (a .pool)) (a .self) _ _ (b11 .expire .ensures .0) (b10 .take .ensures) _ _ _ _ (b7 .got .given .1) (c .push .ensures) (b4 .word-of .ensures .0) (b3 .set32 .ensures)
 
 returns-2 : tie.Need-returns-2
-unfolding newPlace enter mapEntered
-returns-2 c = let a = c .before .before .before .before .before .before .before .args in
-    let e : c .before .before .before .take .result ≡ takeOf (a .class) (a .hint) (now (a .pool)) (expireOf (a .at) (a .self)) =
-    c .before .before .before .take .ensures ∙ ap (takeOf (a .class) (a .hint) (now (a .pool))) (c .before .before .before .before .expire .ensures .0) in
-    let q = sym (ap (λ (x : Taken). x .got) e) ∙ c .enum-told .given .1 in
-    (rw q, rw q)
+returns-2 c =
+    let b3 = c .before .before .before in
+    let b4 = b3 .before in
+    let b7 = b4 .before .before .before in
+    let a = b7 .args in
+    new-none (now (a .map)) (a .id) (a .class) (a .at) (a .end) (a .hint) (now (a .pool)) (a .self) _ _ (b4 .expire .ensures .0) (b3 .take .ensures) (c .enum-told .given .1)
 
 pub place-new-spec : {M : Type 1} → statement M
 place-new-spec =

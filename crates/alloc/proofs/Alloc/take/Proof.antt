@@ -29,11 +29,17 @@ returns c = rw (c .before .enum-told .given .1) (c .from-pool .ensures)
 
 returns-2 : tie.Need-returns-2
 unfolding takeOf
-returns-2 c = rw (c .before .before .before .before .hint .given .1, sym (c .before .before .hinted .ensures) ∙ c .before .if1 .taken, c .take-reg .ensures)
+returns-2 c =
+    let b2 = c .before .before in
+    let b4 = b2 .before .before in
+    rw (b4 .hint .given .1, sym (b2 .hinted .ensures) ∙ c .before .if1 .taken, c .take-reg .ensures)
 
 returns-3 : tie.Need-returns-3
 unfolding takeOf
-returns-3 c = rw (c .before .before .before .before .hint .given .1, sym (c .before .before .hinted .ensures) ∙ c .before .if1 .left) (c .from-pool2 .ensures)
+returns-3 c =
+    let b2 = c .before .before in
+    let b4 = b2 .before .before in
+    rw (b4 .hint .given .1, sym (b2 .hinted .ensures) ∙ c .before .if1 .left) (c .from-pool2 .ensures)
 
 pub take-spec : {M : Type 1} → statement M
 take-spec =

@@ -42,7 +42,10 @@ element-write-self-2 c = search needs
 
 returns : tie.Need-returns
 unfolding takeReg
-returns c = simp (c .with .ensures, c .before .without .ensures, c .before .before .before .before .before .class-of .ensures .0, c .before .before .before .before .index-of .ensures)
+returns c =
+    let b4 = c .before .before .before .before in
+    let b5 = b4 .before in
+    simp (c .with .ensures, c .before .without .ensures, b5 .class-of .ensures .0, b4 .index-of .ensures)
 
 pub take-reg-spec : {M : Type 1} → statement M
 take-reg-spec =

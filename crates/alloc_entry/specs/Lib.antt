@@ -1,0 +1,5 @@
+pub mod Judged
+pub mod Entries
+pub mod Sharing
+pub mod Marks
+pub mod Inner
