@@ -15,8 +15,8 @@
 //! | 7 register of an id | id | its map word, 0 for none |
 //!
 //! A map word is 1 and the place's number: general register r, 256 + k for slot k, 65,792 + r for floating register r.
-use crate::random::Random;
-use crate::xralloc2::{Class, Location, Reg, Xralloc2};
+use garden::rng::Random;
+use garden::xralloc2::{Class, Location, Reg, Xralloc2};
 
 fn word(location: Location) -> u32 {
     1 + match location {

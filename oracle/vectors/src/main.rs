@@ -1,37 +1,25 @@
-//! Writes test vectors whose answers are the Rust's own: `vectors alloc FILE` and `vectors moves FILE`, and on standard output what a program
-//! that replays them has to print. The files are lists of u32, least byte first.
-#![feature(allocator_api)]
-
+//! Writes test vectors whose answers are the Rust's own: `vectors KIND FILE`, and on standard output what a program that replays them has to
+//! print. The files are lists of u32, least byte first; the format of each stands at the top of its source file.
+//!
+//! `vectors count N` compiles N random programs and says what was in them.
 mod alloc;
+mod compact;
+mod compile;
+mod count;
+mod hand;
 mod moves;
-mod random;
-
-#[macro_export]
-macro_rules! trace {
-    ($($t:tt)*) => {};
-}
-
-// What op.rs names and no file that we have defines.
-#[derive(Debug, Clone, Copy, PartialEq, Eq)]
-pub struct AllocType(pub u8);
-#[derive(Debug, Clone, Copy, PartialEq, Eq)]
-pub struct Value(pub u64);
-
-#[allow(dead_code)]
-pub mod xralloc2 {
-    include!(concat!(env!("OUT_DIR"), "/xralloc2.rs"));
-}
-#[allow(dead_code)]
-pub mod op {
-    include!(concat!(env!("OUT_DIR"), "/op.rs"));
-}
+mod places;
 
 fn main() {
     let args: Vec<String> = std::env::args().collect();
     let (words, summary) = match args.iter().map(String::as_str).collect::<Vec<_>>()[..] {
         [_, "alloc", _] => alloc::vectors(),
         [_, "moves", _] => moves::vectors(),
-        _ => panic!("usage: vectors alloc|moves FILE"),
+        [_, "places", _] => places::vectors(),
+        [_, "compact", _] => compact::vectors(),
+        [_, "compile", _] => compile::vectors(),
+        [_, "count", n] => return count::print(n.parse().expect("a number of programs")),
+        _ => panic!("usage: vectors alloc|moves|places|compact|compile FILE, vectors count N"),
     };
     let bytes: Vec<u8> = words.iter().flat_map(|w| w.to_le_bytes()).collect();
     std::fs::write(&args[2], bytes).unwrap();

@@ -2,42 +2,19 @@
 //!
 //! File: the number of lists; each list: n, then n pairs of place numbers (source, destination), then the number of ops, then each op's word,
 //! low half first. A place number is r for general register r, 256 + k for slot k.
-use crate::op::Op;
-use crate::random::Random;
-use crate::xralloc2::{Location, Reg};
-use std::alloc::{Allocator, Global};
-
-const REGISTER_COUNT: u8 = 32;
-const SCRATCH: u8 = REGISTER_COUNT - 1;
-const TMP: u8 = SCRATCH - 1;
-
-struct Cc<S: Allocator> {
-    buf: Vec<Op>,
-    pc_to_span: Vec<u32>,
-    cur_span: u32,
-    scratch_pairs: Vec<(Location, Location), S>,
-}
-
-include!(concat!(env!("OUT_DIR"), "/moves.rs"));
+use garden::bc::Cc;
+use garden::rng::Random;
+use garden::words::word;
+use garden::xralloc2::{Location, Reg};
 
 fn location(place: u32) -> Location {
     if place < 256 { Location::Reg(Reg::Gpr(place as u8)) } else { Location::Stack((place - 256) as u16) }
 }
 
-/// The word of an op, by docs/OPS.md.
-fn word(op: &Op) -> u64 {
-    match *op {
-        Op::Mov { dst, src } => 2 | (dst as u64) << 8 | (src as u64) << 16,
-        Op::StoreSlot { slot, src } => 24 | (src as u64) << 8 | (slot as u64) << 32,
-        Op::LoadSlot { dst, slot } => 25 | (dst as u64) << 8 | (slot as u64) << 32,
-        _ => unreachable!("a move is none of {op:?}"),
-    }
-}
-
 fn ops(list: &[(u32, u32)]) -> Vec<u64> {
-    let mut cc = Cc { buf: vec![], pc_to_span: vec![], cur_span: 7, scratch_pairs: Vec::new_in(Global) };
-    cc.emit_parallel_move(list.iter().map(|&(s, d)| (location(s), location(d))).collect());
-    cc.buf.iter().map(word).collect()
+    let mut cc = Cc::new();
+    cc.only_moves(list.iter().map(|&(s, d)| (location(s), location(d))).collect());
+    cc.buf.iter().map(|&op| word(op, &[], &[])).collect()
 }
 
 /// Places in some order: pool registers and slots, `slots` of them.
@@ -89,12 +66,7 @@ fn any(random: &mut Random) -> Vec<(u32, u32)> {
 pub fn vectors() -> (Vec<u32>, String) {
     let random = &mut Random::new(0x4f08286203);
     // Document 01's examples 1 to 3, then the shapes that are hard, then any.
-    let mut lists = vec![
-        vec![(0, 1), (1, 0), (258, 5)],
-        vec![(0, 4), (1, 5), (2, 6)],
-        vec![(256, 257), (257, 256)],
-        vec![],
-    ];
+    let mut lists = vec![vec![(0, 1), (1, 0), (258, 5)], vec![(0, 4), (1, 5), (2, 6)], vec![(256, 257), (257, 256)], vec![]];
     for n in [2, 3, 4, 5, 10, 29, 30, 60, 100, 189, 190] {
         lists.push(cycles(random, 256, &[n]));
     }
