@@ -10,7 +10,7 @@ use Rattle.base.specs.Buffers.{zeroFrom}
 use Rattle.base.proofs.Lists.{sets-front}
 use Rattle.alloc.specs.declared.Alloc.{Alloc}
 use Rattle.alloc.specs.State.{freshOf}
-use Rattle.input.specs.Layout.{values, instructions, valueField}
+use Rattle.input.specs.Layout.{values, valueField}
 use Rattle.rows.specs.Rows.{rowsOf}
 use Rattle.assign.specs.Walk.{walk, poolOf, firstHints, begin, assigned}
 use Rattle.assign.specs.Fits.{Lent, runRows}
@@ -79,7 +79,7 @@ assigned-is n ws pool none map wish noted s places wishes masks l ep en es em ew
     let m : places ≡ replicate (values ws) 0 = em ∙ zero-all map (values ws) (l .places) in
     let h : wishes ≡ firstHints ws 0 (values ws) =
     ew ∙ sets-whole wish (firstHints ws 0 (values ws)) (l .wishes ∙ sym (length-hints ws 0 (values ws))) in
-    let k : masks ≡ replicate (instructions ws) 0 = ek ∙ zero-all noted (instructions ws) (l .masks) in
+    let k : masks ≡ replicate (values ws) 0 = ek ∙ zero-all noted (values ws) (l .masks) in
     rw (f, m, h, k, ep)
 
 -- the first N - 2 of an array of 64

@@ -9,10 +9,10 @@ use native.Mathlib.Nat.{add-zero}
 use lib.ListN.{length, getD, set, length-append}
 use borrow.Author.Tests.{eq-eqb, ne-eqb, lt-ltb, le-ltb, le-leb, lt-leb}
 use Rattle.base.specs.Choice.{pick}
-use Rattle.input.specs.Layout.{poolAt, listAt, blocks}
+use Rattle.input.specs.Layout.{poolAt, listAt}
 use Rattle.input.specs.Records.{tombstone, paramsOf, firstInstr, instrCount, firstEdge, edgeCount, edgeTarget, argumentsOf}
 use Rattle.rows.specs.Rows.{Row, params, instr, term, instrRows, blockRows, rowsFrom, overRows, maybe, definedBy}
-use Rattle.assign.specs.Steps.{Step, note, pins, places, hints, edgeHints, edgesHints, isCall, rowSteps}
+use Rattle.assign.specs.Steps.{Step, pins, places, notes, hints, edgeHints, edgesHints, isCall, rowSteps}
 use Rattle.alloc.specs.declared.Alloc.{Alloc}
 use Rattle.assign.specs.Walk.{Walk, walk, placeStep, pinStep, noteStep, hintStep, step, run}
 use Rattle.assign.specs.Fits.{runRows}
@@ -142,19 +142,27 @@ module _ (ws pool : List ℕ) (r : ℕ) (w : Walk) where
   unfolding run places step
   maybe-some d h = let e : d ≡ suc (d - 1) = omega arith in ap (λ (n : ℕ). run ws pool (places r (maybe n)) w) e
 
-  pub note-yes : (i : ℕ) → isCall ws i ≡ true → run ws pool (pick (isCall ws i) (note r i ∷ []) []) w ≡ noteStep r i w
-  unfolding run step
-  note-yes i h = ap (λ (t : Bool). run ws pool (pick t (note r i ∷ []) []) w) h
+  pub note-none : (d : ℕ) → d ≡ 0 → run ws pool (notes r (maybe d)) w ≡ w
+  unfolding run notes
+  note-none d h = rw h
 
-  pub note-no : (i : ℕ) → isCall ws i ≡ false → run ws pool (pick (isCall ws i) (note r i ∷ []) []) w ≡ w
+  pub note-some : (d : ℕ) → 0 < d → run ws pool (notes r (maybe d)) w ≡ noteStep r (d - 1) w
+  unfolding run notes step
+  note-some d h = let e : d ≡ suc (d - 1) = omega arith in ap (λ (n : ℕ). run ws pool (notes r (maybe n)) w) e
+
+  pub note-yes : (i : ℕ) → isCall ws i ≡ true
+      → run ws pool (pick (isCall ws i) (notes r (definedBy ws i)) []) w ≡ run ws pool (notes r (definedBy ws i)) w
+  note-yes i h = ap (λ (t : Bool). run ws pool (pick t (notes r (definedBy ws i)) []) w) h
+
+  pub note-no : (i : ℕ) → isCall ws i ≡ false → run ws pool (pick (isCall ws i) (notes r (definedBy ws i)) []) w ≡ w
   unfolding run
-  note-no i h = ap (λ (t : Bool). run ws pool (pick t (note r i ∷ []) []) w) h
+  note-no i h = ap (λ (t : Bool). run ws pool (pick t (notes r (definedBy ws i)) []) w) h
 
   pub instr-split : (i : ℕ)
       → run ws pool (rowSteps ws r (instr i)) w
-      ≡ run ws pool (places r (definedBy ws i)) (run ws pool (pick (isCall ws i) (note r i ∷ []) []) w)
+      ≡ run ws pool (places r (definedBy ws i)) (run ws pool (pick (isCall ws i) (notes r (definedBy ws i)) []) w)
   unfolding rowSteps
-  instr-split i = run-append ws pool (pick (isCall ws i) (note r i ∷ []) []) (places r (definedBy ws i)) w
+  instr-split i = run-append ws pool (pick (isCall ws i) (notes r (definedBy ws i)) []) (places r (definedBy ws i)) w
 
   pub term-steps : (b : ℕ)
       → run ws pool (rowSteps ws r (term b)) w ≡ run ws pool (edgesHints ws b (firstEdge ws b) (edgeCount ws b)) w

@@ -4,7 +4,7 @@ use mathlib.Core.Bool.{Bool, true}
 use mathlib.Core.List.{List}
 use mathlib.Core.Path.{_≡_}
 use lib.ListN.{length}
-use Rattle.input.specs.Layout.{values, blocks, instructions}
+use Rattle.input.specs.Layout.{values, blocks}
 use Rattle.input.specs.Records.{isLive, paramCount, firstInstr, instrCount, firstEdge, edgeCount}
 use Rattle.rows.specs.Rows.{Row, rowsOf, overRows, rowDefs}
 use Rattle.assign.specs.Steps.{rowSteps}
@@ -17,11 +17,11 @@ pub record Fits (ws : List ℕ) : Type 0 where
   pub instrs : (b : ℕ) → b < blocks ws → isLive ws b ≡ true → firstInstr ws b + instrCount ws b < 4294967296
   pub edges : (b : ℕ) → b < blocks ws → isLive ws b ≡ true → firstEdge ws b + edgeCount ws b < 4294967296
 
--- a place and a hint for each value, a mask for each instruction
+-- for each value: a place, a hint, and the registers noted at the call that defines it
 pub record Lent (ws map wish noted : List ℕ) : Type 0 where
   pub places : length map ≡ values ws
   pub wishes : length wish ≡ values ws
-  pub masks : length noted ≡ instructions ws
+  pub masks : length noted ≡ values ws
 
 -- a run over the rows xs, the first of them row r
 abbrev pub runRows : List ℕ → List ℕ → ℕ → List Row → Walk → Walk

@@ -1,6 +1,6 @@
 -- The walk over live blocks and rows, as a flat list of steps.
 use Prim.Native.Nat.{ℕ, zero, suc, _+_}
-use mathlib.Core.Bool.{Bool, true, false}
+use mathlib.Core.Bool.{Bool, true}
 use mathlib.Core.List.{List, [], _∷_, _++_}
 use lib.Dec.{ltb, eqb}
 use Rattle.base.specs.Choice.{pick}
@@ -8,10 +8,11 @@ use Rattle.input.specs.Records.{paramsOf, firstEdge, edgeCount, edgeTarget, arg
 use Rattle.rows.specs.Rows.{Row, params, instr, term, rowsOf, overRows, definedBy}
 
 pub data Step : Type 0 where
-  -- at a row, value v to register k; value v at a row; the registers at a row, for an instruction; the register of an argument for a parameter
+  -- at a row, value v to register k; value v at a row; the registers at a row, for the value that the call defines; the register of an argument
+  -- for a parameter
   pin : (row k v : ℕ) → Step
   place : (row v : ℕ) → Step
-  note : (row i : ℕ) → Step
+  note : (row value : ℕ) → Step
   hint : (argument parameter : ℕ) → Step
 
 -- block 0 pins parameter i to register i; every other definition is placed at its row
@@ -22,6 +23,11 @@ pins r k (v ∷ vs) = pin r k v ∷ pins r (k + 1) vs
 unfoldable pub places : ℕ → List ℕ → List Step
 places r [] = []
 places r (v ∷ vs) = place r v ∷ places r vs
+
+-- a Call or Sys has one destination, and no value is defined twice: what is noted at a call is kept by the value that it defines
+unfoldable pub notes : ℕ → List ℕ → List Step
+notes r [] = []
+notes r (v ∷ vs) = note r v ∷ notes r vs
 
 -- hints after each block, only along edges to a higher block, in bc's order: the order of the edges' table
 unfoldable pub hints : List ℕ → List ℕ → List Step
@@ -42,7 +48,7 @@ isCall ws i = pick (eqb (instrKind ws i) call) true (eqb (instrKind ws i) sys)
 
 unfoldable pub rowSteps : List ℕ → ℕ → Row → List Step
 rowSteps ws r (params b) = pick (eqb b 0) (pins r 0 (paramsOf ws b)) (places r (paramsOf ws b))
-rowSteps ws r (instr i) = pick (isCall ws i) (note r i ∷ []) [] ++ places r (definedBy ws i)
+rowSteps ws r (instr i) = pick (isCall ws i) (notes r (definedBy ws i)) [] ++ places r (definedBy ws i)
 rowSteps ws r (term b) = edgesHints ws b (firstEdge ws b) (edgeCount ws b)
 
 abbrev pub stepsOf : List ℕ → List Step

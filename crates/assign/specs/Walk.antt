@@ -12,13 +12,13 @@ use Rattle.alloc.specs.declared.Hint.{Hint}
 use Rattle.alloc.specs.declared.Hint.the-variants as to
 use Rattle.alloc.specs.State.{live, freshOf}
 use Rattle.alloc.specs.Allocation.{isFree, placeOf, mapAfterPlace, pinOf, mapAfterPin, liveAfter}
-use Rattle.input.specs.Layout.{values, instructions}
+use Rattle.input.specs.Layout.{values}
 use Rattle.input.specs.Records.{endOf, hintOf}
 use Rattle.input.specs.Forms.{both}
 use Rattle.rows.specs.Rows.{Ref, defsOf}
 use Rattle.assign.specs.Steps.{Step, pin, place, note, hint, stepsOf}
 
--- the allocator, the place of each value, its hint (0 for none, else the register and 1), and the registers noted for each instruction
+-- the allocator; for each value: its place, its hint (0 for none, else the register and 1), and the registers noted at the call that defines it
 pub record Walk : Type 0 where
   pub alloc : Alloc
   pub map : List ℕ
@@ -49,9 +49,9 @@ pinStep ws pool r k v w =
     (walk (pinOf (Gpr k) (endOf ws v) (w .alloc)) (mapAfterPin (w .map) v (Gpr k) (w .alloc)) (w .wish) (w .noted))
     (placeStep ws pool r v w)
 
--- registers of active entries with end > row
+-- for value v: the registers of active entries with end > row
 unfoldable pub noteStep : ℕ → ℕ → Walk → Walk
-noteStep r i w = walk (w .alloc) (w .map) (w .wish) (set (w .noted) i (liveAfter 0 r (live (w .alloc)) 0))
+noteStep r v w = walk (w .alloc) (w .map) (w .wish) (set (w .noted) v (liveAfter 0 r (live (w .alloc)) 0))
 
 -- the argument's register, if it has one, for the parameter; later wins. The map word of general register r is r and 1, as the hint's is.
 abbrev pub inRegister : ℕ → Bool
@@ -64,7 +64,7 @@ hintStep a p w =
 unfoldable pub step : List ℕ → List ℕ → Step → Walk → Walk
 step ws pool (pin r k v) w = pinStep ws pool r k v w
 step ws pool (place r v) w = placeStep ws pool r v w
-step ws pool (note r i) w = noteStep r i w
+step ws pool (note r v) w = noteStep r v w
 step ws pool (hint a p) w = hintStep a p w
 
 unfoldable pub run : List ℕ → List ℕ → List Step → Walk → Walk
@@ -84,13 +84,13 @@ firstHints ws v (suc n) = hintOf ws v ∷ firstHints ws (v + 1) n
 -- before the first row: every pool register free, no place, the first hints, nothing noted
 unfoldable pub begin : ℕ → List ℕ → Walk
 begin n ws =
-    walk (freshOf (poolOf (n - 2)) []) (replicate (values ws) 0) (firstHints ws 0 (values ws)) (replicate (instructions ws) 0)
+    walk (freshOf (poolOf (n - 2)) []) (replicate (values ws) 0) (firstHints ws 0 (values ws)) (replicate (values ws) 0)
 
 -- after the last
 unfoldable pub assigned : ℕ → List ℕ → Walk
 assigned n ws = run ws (poolOf (n - 2)) (stepsOf ws) (begin n ws)
 
--- the word of a value's place, 0 for none; the slots made; the registers noted at an instruction
+-- the word of a value's place, 0 for none; the slots made
 abbrev pub placeWord : ℕ → List ℕ → ℕ → ℕ
 placeWord n ws v = getD (assigned n ws .map) v 0
 

@@ -4,7 +4,7 @@ use alloc::Hint;
 use place::Reg;
 ghost use mathlib.Core.Path.{_≡_};
 ghost use mathlib.Core.Bool.{true, false};
-ghost use mathlib.Core.List.{List, [], _∷_};
+ghost use mathlib.Core.List.{List, []};
 ghost use Prim.Native.Nat.{ℕ, _+_, _-_, _<_, _≤_};
 ghost use lib.Dec.{eqb};
 ghost use lib.ListN.{length, getD};
@@ -15,8 +15,8 @@ ghost use Rattle.alloc.specs.declared.Alloc.{Alloc};
 ghost use Rattle.alloc.specs.Good.{Good};
 ghost use Rattle.input.specs.Layout.{blocks, values, listAt};
 ghost use Rattle.input.specs.Records.{isLive, firstInstr, instrCount, call, sys};
-ghost use Rattle.rows.specs.Rows.{params, instr, term, instrRows, blockRows, rowsOf, refs, maybe, defsOf};
-ghost use Rattle.assign.specs.Steps.{note, isCall, pins, places, hints, edgeHints, edgesHints, rowSteps};
+ghost use Rattle.rows.specs.Rows.{params, instr, term, instrRows, blockRows, rowsOf, refs, maybe, definedBy, defsOf};
+ghost use Rattle.assign.specs.Steps.{isCall, pins, places, notes, hints, edgeHints, edgesHints, rowSteps};
 ghost use Rattle.assign.specs.Walk.{walk, hintFor, placeStep, pinStep, hintStep, run, poolOf, firstHints, assigned, usedBelow, allPlaced};
 ghost use Rattle.assign.specs.Fits.{Fits, Lent, runRows, rowsPlaced};
 
@@ -190,15 +190,27 @@ fn calls(kind: u32) -> bool
     if kind == 3 { true } else { kind == 4 }
 }
 
-// A Call or Sys: the registers that active entries hold past its row are noted.
+// The registers that active entries hold past a row are noted for a destination, given as 0 for none, else the value and 1.
+fn note_maybe(s: Alloc, noted: &mut [u64], row: u32, d: u32)
+    requires { ⌜ Good s ⌝ }
+    ensures { λ _. ⌜ ((ws pool m h : List ℕ) → walk s m h (now (noted .exit)) ≡ run ws pool (notes row (maybe d)) (walk s m h (now (noted .entry)))) ⌝ }
+{
+    if d == 0 {
+        return;
+    }
+    let m = s.live_after(0, row);
+    base::set64(noted, (d - 1) as usize, m);
+}
+
+// A Call or Sys notes them for the value that it defines.
 fn note_row(s: Alloc, ws: &[u32], noted: &mut [u64], row: u32, i: u32)
     requires { ⌜ Good s ⌝ }
-    ensures { λ _. ⌜ ((pool m h : List ℕ) → walk s m h (now (noted .exit)) ≡ run (now (ws .entry)) pool (pick (isCall (now (ws .entry)) i) (note row i ∷ []) []) (walk s m h (now (noted .entry)))) ⌝ }
+    ensures { λ _. ⌜ ((pool m h : List ℕ) → walk s m h (now (noted .exit)) ≡ run (now (ws .entry)) pool (pick (isCall (now (ws .entry)) i) (notes row (definedBy (now (ws .entry)) i)) []) (walk s m h (now (noted .entry)))) ⌝ }
 {
     let kind = input::instr_field(ws, i, 0);
     if calls(kind) {
-        let m = s.live_after(0, row);
-        base::set64(noted, i as usize, m);
+        let d = input::instr_field(ws, i, 2);
+        note_maybe(s, noted, row, d);
     }
 }
 

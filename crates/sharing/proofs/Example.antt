@@ -17,7 +17,7 @@ use Rattle.rows.specs.Rows.{instr, instrRows, blockRows, rowsFrom, every, overR
 use Rattle.shape.specs.Counts.{rowCount, blockCounts, instrCounts, countsOk}
 use Rattle.shape.specs.Shape.{paramsShape, instrShape, edgeShape, noneLive, termShape, shapeOk}
 use Rattle.fit.specs.Intervals.{once, onceOk, fitDef, fitDefs, fitUse, fitUses, fitArgs, fitEdges, fitRow, intervalsOk}
-use Rattle.assign.specs.Steps.{isCall, pins, places, hints, edgeHints, edgesHints, rowSteps}
+use Rattle.assign.specs.Steps.{isCall, pins, places, notes, hints, edgeHints, edgesHints, rowSteps}
 use Rattle.assign.specs.Walk.{hintFor, placeStep, pinStep, noteStep, hintStep, step, run, poolOf, firstHints, begin, assigned, placeWord, allPlaced, slotsOk}
 use Rattle.sharing.specs.Sharing.{Given, RowIs, NoSharing}
 use Rattle.sharing.proofs.Theorem.{sharing}
@@ -63,7 +63,7 @@ loop-fits = refl
 
 -- registers 0 and 1 for the parameters, 2 for the call's value
 pub loop-places : assigned 22 loop .map ≡ 1 ∷ 2 ∷ 1 ∷ 2 ∷ 3 ∷ 1 ∷ []
-unfolding assigned begin firstHints poolOf run step placeStep pinStep noteStep hintStep hintFor pins places hints edgeHints edgesHints rowSteps overRows rowsFrom blockRows instrRows headField valueField blockField instrField edgeField poolAt listAt alloc.placeOf alloc.mapAfterPlace alloc.mapEntered alloc.newPlace alloc.enter alloc.takeOf alloc.fromPool alloc.lastFree alloc.hinted alloc.takeReg alloc.takeSlot alloc.isFree alloc.expireOf alloc.keptOf alloc.goneOf alloc.releaseAll alloc.release alloc.freeReg alloc.freeSlot alloc.pinOf alloc.mapAfterPin alloc.liveAfter freshOf maskOf foundOf placeOf hasBit withBit withoutBit
+unfolding assigned begin firstHints poolOf run step placeStep pinStep noteStep hintStep hintFor pins places notes hints edgeHints edgesHints rowSteps overRows rowsFrom blockRows instrRows headField valueField blockField instrField edgeField poolAt listAt alloc.placeOf alloc.mapAfterPlace alloc.mapEntered alloc.newPlace alloc.enter alloc.takeOf alloc.fromPool alloc.lastFree alloc.hinted alloc.takeReg alloc.takeSlot alloc.isFree alloc.expireOf alloc.keptOf alloc.goneOf alloc.releaseAll alloc.release alloc.freeReg alloc.freeSlot alloc.pinOf alloc.mapAfterPin alloc.liveAfter freshOf maskOf foundOf placeOf hasBit withBit withoutBit
 loop-places = refl
 
 loop-slots : slotsOk 22 loop ≡ true
@@ -108,8 +108,8 @@ is-call : isCall loop 0 ≡ true
 unfolding instrField headField
 is-call = refl
 
-pub second-noted : hasBit (getD (assigned 22 loop .noted) 0 0) 1 ≡ true
+pub second-noted : hasBit (getD (assigned 22 loop .noted) 4 0) 1 ≡ true
 unfolding rowIn overRows rowDefs refs rowsFrom blockRows instrRows headField blockField instrField poolAt listAt
 second-noted =
-    loop-theorem .notes 0 3 call-row is-call 1 (lit≤ tt)
+    loop-theorem .notes 0 4 3 call-row is-call refl 1 (lit≤ tt)
     (record { value = 3; in-use = second-in-use; before = lit≤ tt; there = ap (λ (m : List ℕ). getD m 3 0) loop-places })

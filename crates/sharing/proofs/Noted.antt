@@ -1,6 +1,6 @@
--- What is noted at an instruction stays, and which registers it says.
+-- What is noted for a value stays, and which registers it says.
 use Prim.Native.Nat.{ℕ, zero, suc, _+_, _<_}
-use mathlib.Core.Bool.{Bool, true, false}
+use mathlib.Core.Bool.{true}
 use mathlib.Core.List.{List, [], _∷_, List·Memᴰ, List·Memᴰ·head, List·Memᴰ·tail}
 use mathlib.Core.Logic.{_⊎_, inl, inr, ⊎-elim}
 use mathlib.Core.Path.{_≡_, refl, sym, _∙_}
@@ -8,7 +8,6 @@ use native.Mathlib.Omega.{arith}
 use lib.Dec.{leb, ltb, eqb}
 use lib.ListN.{set}
 use borrow.Author.Tests.{ltb-true, lt-leb, eq-eqb}
-use Rattle.base.specs.Choice.{pick}
 use Rattle.base.specs.Masks.{hasBit}
 use Rattle.base.proofs.Masks.{has-with-other}
 use Rattle.base.proofs.Numbers.{pick-both, pick-case, same?}
@@ -16,11 +15,12 @@ use Rattle.place.specs.declared.Reg.the-variants.{Gpr, Fpr}
 use Rattle.place.specs.declared.Place.{Place}
 use Rattle.place.specs.declared.Place.the-variants.{Slot, Register}
 use Rattle.alloc.specs.declared.Entry.{Entry}
-use Rattle.alloc.specs.Allocation.{keptOf, isFree, notes, liveAfter}
+use Rattle.alloc.specs.Allocation as alloc
+use Rattle.alloc.specs.Allocation.{keptOf, isFree, liveAfter}
 use Rattle.alloc.specs.Good.{same, occurs}
-use Rattle.input.specs.Records.{paramsOf, firstEdge, edgeCount, edgeTarget, argumentsOf}
-use Rattle.rows.specs.Rows.{Row, params, instr, term, overRows, definedBy}
-use Rattle.assign.specs.Steps.{Step, place, note, pins, places, hints, edgeHints, edgesHints, isCall, rowSteps}
+use Rattle.input.specs.Records.{destination, paramsOf, firstEdge, edgeCount, edgeTarget, argumentsOf}
+use Rattle.rows.specs.Rows.{Row, params, instr, term, overRows, maybe, definedBy}
+use Rattle.assign.specs.Steps.{Step, pins, places, notes, hints, edgeHints, edgesHints, isCall, rowSteps}
 use Rattle.assign.specs.Walk.{Walk, step, run, pinStep, placeStep, noteStep, hintStep}
 use Rattle.sharing.proofs.Runs.{run-append}
 
@@ -58,28 +58,33 @@ module _ (ws pool : List ℕ) (P : List ℕ → Type 0) where
       (hints-keep (argumentsOf ws e) (paramsOf ws (edgeTarget ws e)) w h) (none-keep w h)))
 
   module _ (Ok : ℕ → Type 0) (keep : (l : List ℕ) (j x : ℕ) → Ok j → P l → P (set l j x)) where
-    first-keep : (r j : ℕ) (b : Bool) (w : Walk) → Ok j → P (w .noted) → P (run ws pool (pick b (note r j ∷ []) []) w .noted)
-    unfolding run step noteStep
-    first-keep r j true w o h = keep (w .noted) j _ o h
-    first-keep r j false w o h = h
+    notes-keep : (r d : ℕ) (w : Walk) → ((v : ℕ) → d ≡ suc v → Ok v) → P (w .noted) → P (run ws pool (notes r (maybe d)) w .noted)
+    unfolding run notes step noteStep
+    notes-keep r zero w o h = h
+    notes-keep r (suc v) w o h = keep (w .noted) v _ (o v refl) h
 
-    row-keep : (r : ℕ) (x : Row) (w : Walk) → ((j : ℕ) → x ≡ instr j → Ok j) → P (w .noted) → P (run ws pool (rowSteps ws r x) w .noted)
+    row-keep : (r : ℕ) (x : Row) (w : Walk) → ((j v : ℕ) → x ≡ instr j → destination ws j ≡ suc v → Ok v) → P (w .noted)
+        → P (run ws pool (rowSteps ws r x) w .noted)
     unfolding rowSteps
     row-keep r (params b) w o h =
         pick-both (λ (l : List Step). P (run ws pool l w .noted)) (eqb b 0) _ _ (pins-keep r 0 (paramsOf ws b) w h) (places-keep r (paramsOf ws b) w h)
     row-keep r (instr i) w o h =
-        rw run-append (places-keep r (definedBy ws i) _ (first-keep r i (isCall ws i) w (o i refl) h))
+        rw run-append
+        (places-keep r (definedBy ws i) _
+        (pick-both (λ (l : List Step). P (run ws pool l w .noted)) (isCall ws i) _ _
+        (notes-keep r (destination ws i) w (λ v e. o i v refl e) h) (none-keep w h)))
     row-keep r (term b) w o h = edges-keep b (firstEdge ws b) (edgeCount ws b) w h
 
-    pub rows-keep : (r : ℕ) (xs : List Row) (w : Walk) → ((j : ℕ) → List·Memᴰ (instr j) xs → Ok j) → P (w .noted) → P (run ws pool (overRows (rowSteps ws) r xs) w .noted)
+    pub rows-keep : (r : ℕ) (xs : List Row) (w : Walk) → ((j v : ℕ) → List·Memᴰ (instr j) xs → destination ws j ≡ suc v → Ok v) → P (w .noted)
+        → P (run ws pool (overRows (rowSteps ws) r xs) w .noted)
     unfolding overRows
     rows-keep r [] w o h = none-keep w h
     rows-keep r (x ∷ xs) w o h =
         rw run-append
-        (rows-keep (r + 1) xs _ (λ j m. o j (List·Memᴰ·tail m)) (row-keep r x w (λ j e. o j (List·Memᴰ·head (sym e))) h))
+        (rows-keep (r + 1) xs _ (λ j v m. o j v (List·Memᴰ·tail m)) (row-keep r x w (λ j v e. o j v (List·Memᴰ·head (sym e))) h))
 
 -- ---- a bit that is noted is that of a register whose entry lasts
-notes-only : (k : ℕ) (p : Place) (m : ℕ) → hasBit (notes 0 p m) k ≡ true → (hasBit m k ≡ true) ⊎ (0 < same (Register (Gpr k)) p)
+notes-only : (k : ℕ) (p : Place) (m : ℕ) → hasBit (alloc.notes 0 p m) k ≡ true → (hasBit m k ≡ true) ⊎ (0 < same (Register (Gpr k)) p)
 notes-only k (Slot j) m h = inl h
 notes-only k (Register (Fpr r)) m h = inl h
 notes-only k (Register (Gpr r)) m h =

@@ -11,7 +11,7 @@ use borrow.Author.Tests.{leb-true}
 use Rattle.base.proofs.Numbers.{pick-both, same?}
 use Rattle.input.specs.Layout.{instructions}
 use Rattle.input.specs.Records.{blockId, isLive, paramsAt, paramCount, paramsOf, firstInstr, instrCount}
-use Rattle.input.specs.Forms.{both, each}
+use Rattle.input.specs.Forms.{both}
 use Rattle.rows.specs.Rows.{Row, params, instr, term, instrRows, blockRows, rowsFrom, overRows, every, Ref, ref, refs, definedBy, rowDefs, defined}
 use Rattle.shape.specs.Shape.{listIn, paramsShape, rowShape}
 use Rattle.fit.specs.Intervals.{once}
@@ -47,15 +47,6 @@ every-right ok r [] ys h = let e : r + 0 ≡ r = omega arith in rw e h
 every-right ok r (x ∷ xs) ys h =
     let e : r + suc (length xs) ≡ r + 1 + length xs = omega arith in
     rw e (every-right ok (r + 1) xs ys (both-right (ok r x) (every ok (r + 1) (xs ++ ys)) h))
-
--- what holds of each record holds of record i
-pub each-at : (ok : ℕ → Bool) (k n i : ℕ) → each ok k n ≡ true → i < n → ok (k + i) ≡ true
-unfolding each
-each-at ok k zero i h l = absurd (omega arith)
-each-at ok k (suc n) zero h l = let e : k + 0 ≡ k = omega arith in rw e (both-left (ok k) (each ok (k + 1) n) h)
-each-at ok k (suc n) (suc i) h l =
-    let e : k + suc i ≡ k + 1 + i = omega arith in
-    rw e (each-at ok (k + 1) n i (both-right (ok k) (each ok (k + 1) n) h) (omega arith))
 
 -- ---- the rows of definitions
 refs-row : (q v r : ℕ) (vs : List ℕ) → Did q v (refs r vs) → q ≡ r

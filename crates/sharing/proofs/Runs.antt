@@ -1,6 +1,6 @@
 -- The walk stays safe from row to row, and a value that has its place keeps it.
 use Prim.Native.Nat.{ℕ, zero, suc, _+_, _-_, _<_}
-use mathlib.Core.Bool.{Bool, true, false}
+use mathlib.Core.Bool.{true}
 use mathlib.Core.List.{List, [], _∷_, _++_, append-assoc, append-nil, List·Memᴰ·head, List·Memᴰ·not-nil, Memᴰ·append-left}
 use mathlib.Core.Logic.{_⊎_, inl, inr, ⊎-elim}
 use mathlib.Core.Path.{_≡_, refl, sym, ap, _∙_}
@@ -24,7 +24,7 @@ use Rattle.input.specs.Layout.{values}
 use Rattle.input.specs.Records.{endOf, paramsOf, firstEdge, edgeCount, edgeTarget, argumentsOf}
 use Rattle.rows.specs.Rows.{Row, params, instr, term, overRows, Ref, ref, refs, definedBy, rowDefs}
 use Rattle.fit.specs.Intervals.{once}
-use Rattle.assign.specs.Steps.{Step, note, pins, places, hints, edgeHints, edgesHints, isCall, rowSteps}
+use Rattle.assign.specs.Steps.{Step, pins, places, notes, hints, edgeHints, edgesHints, isCall, rowSteps}
 use Rattle.assign.specs.Walk.{Walk, walk, step, run, pinStep, placeStep, noteStep, hintStep, poolOf, begin}
 use Rattle.sharing.proofs.Defined.{never, Did, Not, once-left, once-cross}
 use Rattle.sharing.proofs.Placing.{word, Change, place-placed, pin-placed, changed}
@@ -174,18 +174,18 @@ module _ (n : ℕ) (ws : List ℕ) where
   quiet-goes : (r : ℕ) (done : List Ref) (w w′ : Walk) → Safe n ws r done w → Quiet w w′ → Goes n ws r done [] w w′
   quiet-goes r done w w′ s e = goes-nowhere r done w w′ (unmoved r done w w′ s e) (e .map)
 
-  pub note-quiet : (r i : ℕ) (w : Walk) → Quiet w (noteStep r i w)
+  note-quiet : (r v : ℕ) (w : Walk) → Quiet w (noteStep r v w)
   unfolding noteStep
-  note-quiet r i w = record { alloc = refl; map = refl }
+  note-quiet r v w = record { alloc = refl; map = refl }
 
   hint-quiet : (a p : ℕ) (w : Walk) → Quiet w (hintStep a p w)
   unfolding hintStep
   hint-quiet a p w = record { alloc = refl; map = refl }
 
-  first-quiet : (r i : ℕ) (b : Bool) (w : Walk) → Quiet w (run ws pool (pick b (note r i ∷ []) []) w)
-  unfolding run step
-  first-quiet r i true w = note-quiet r i w
-  first-quiet r i false w = quiet-none
+  notes-quiet : (r : ℕ) (vs : List ℕ) (w : Walk) → Quiet w (run ws pool (notes r vs) w)
+  unfolding run notes step
+  notes-quiet r [] w = quiet-none
+  notes-quiet r (v ∷ vs) w = quiet-then (note-quiet r v w) (notes-quiet r vs (noteStep r v w))
 
   hints-quiet : (xs ps : List ℕ) (w : Walk) → Quiet w (run ws pool (hints xs ps) w)
   unfolding run hints step
@@ -214,8 +214,9 @@ module _ (n : ℕ) (ws : List ℕ) where
       pick-both (λ (l : List Step). Goes n ws r done (refs r (paramsOf ws b)) w (run ws pool l w)) (eqb b 0) _ _
       (pins-go r 0 (paramsOf ws b) done w s o) (places-go r (paramsOf ws b) done w s o)
   row-goes r (instr i) done w s o =
-      let w′ : Walk = run ws pool (pick (isCall ws i) (note r i ∷ []) []) w in
-      let e : Quiet w w′ = first-quiet r i (isCall ws i) w in
+      let w′ : Walk = run ws pool (pick (isCall ws i) (notes r (definedBy ws i)) []) w in
+      let e : Quiet w w′ =
+      pick-both (λ (l : List Step). Quiet w (run ws pool l w)) (isCall ws i) _ _ (notes-quiet r (definedBy ws i) w) (none-quiet w) in
       let g : Goes n ws r done (refs r (definedBy ws i)) w′ (run ws pool (places r (definedBy ws i)) w′) =
       places-go r (definedBy ws i) done w′ (unmoved r done w w′ s e) o in
       rw run-append (record { safe = g .safe; stays = λ q u d. g .stays q u d ∙ ap (λ (m : List ℕ). getD m u 0) (e .map) })

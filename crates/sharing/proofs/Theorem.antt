@@ -10,6 +10,6 @@ sharing n least most ws g =
       placed = all-placed n ws (g .once) (g .places);
       apart = all-apart n ws (g .once) (g .places);
       parameters = params-apart n ws (g .once) (g .intervals) (g .places);
-      noted = λ i r at c k l h. call-noted-only n ws g i r at c k h;
-      notes = λ i r at c k l f. call-noted-all n ws g i r at c k l f;
+      noted = λ i v r at c d k l h. call-noted-only n ws g i r at c v d k h;
+      notes = λ i v r at c d k l f. call-noted-all n ws g i r at c v d k l f;
     }

@@ -1,13 +1,13 @@
 -- The theorem on places: two values in use at once never share a place.
 use mathlib.Core.Path.{_≡_}
 use mathlib.Core.Bool.{true}
-use Prim.Native.Nat.{ℕ, _+_, _<_, _≤_}
+use Prim.Native.Nat.{ℕ, suc, _+_, _<_, _≤_}
 use mathlib.Core.List.{List}
 use lib.ListN.{getD, length}
 use Rattle.base.specs.Masks.{hasBit}
 use Rattle.place.specs.Registers.{inPool}
 use Rattle.input.specs.Forms.{wordsOk}
-use Rattle.input.specs.Records.{paramsOf, startOf, endOf, isLive}
+use Rattle.input.specs.Records.{paramsOf, startOf, endOf, isLive, destination}
 use Rattle.input.specs.Layout.{blocks}
 use Rattle.shape.specs.Counts.{countsOk}
 use Rattle.shape.specs.Shape.{shapeOk}
@@ -52,11 +52,12 @@ pub record NoSharing (n : ℕ) (ws : List ℕ) : Type 0 where
       → startOf ws (getD (paramsOf ws b) i 0) < endOf ws (getD (paramsOf ws b) i 0)
       → startOf ws (getD (paramsOf ws b) j 0) < endOf ws (getD (paramsOf ws b) j 0)
       → placeWord n ws (getD (paramsOf ws b) i 0) ≡ placeWord n ws (getD (paramsOf ws b) j 0) → i ≡ j
-  -- the noted registers at a call are exactly the registers of the values in use past it: defined before its row, and in use at it
-  pub noted : (i r : ℕ) → RowIs ws r (instr i) → isCall ws i ≡ true → (k : ℕ) → k < 64
-      → hasBit (getD (assigned n ws .noted) i 0) k ≡ true → NotedFor n ws r k
-  pub notes : (i r : ℕ) → RowIs ws r (instr i) → isCall ws i ≡ true → (k : ℕ) → k < 64 → NotedFor n ws r k
-      → hasBit (getD (assigned n ws .noted) i 0) k ≡ true
+  -- the registers noted at a call, kept by the value that it defines, are exactly those of the values in use past it: defined before its row,
+  -- and in use at it
+  pub noted : (i v r : ℕ) → RowIs ws r (instr i) → isCall ws i ≡ true → destination ws i ≡ suc v → (k : ℕ) → k < 64
+      → hasBit (getD (assigned n ws .noted) v 0) k ≡ true → NotedFor n ws r k
+  pub notes : (i v r : ℕ) → RowIs ws r (instr i) → isCall ws i ≡ true → destination ws i ≡ suc v → (k : ℕ) → k < 64 → NotedFor n ws r k
+      → hasBit (getD (assigned n ws .noted) v 0) k ≡ true
 
 abbrev pub SharingTheorem : Type 0
 SharingTheorem = (n : ℕ) → 22 ≤ n → n ≤ 64 → (ws : List ℕ) → Given n ws → NoSharing n ws

@@ -1,7 +1,7 @@
--- The steps of a Call or Sys are one, those of any other instruction none.
+-- A Call or Sys notes for its destination, any other instruction nothing.
 use denote.Ref.{now}
 use mathlib.Core.Path.{sym, _∙_}
-use Rattle.assign.specs.Walk.{walk, noteStep}
+use Rattle.assign.specs.Walk.{walk}
 use Rattle.assign.proofs.Runs.{note-yes, note-no}
 use borrow.Author.Needs.{needs}
 use Rattle.assign.proofs.note_row.Statement.{statement}
@@ -13,21 +13,20 @@ instr-field-requires c κs = search needs
 calls-requires : tie.Need-calls-requires
 calls-requires c κs = search needs
 
-live-after-requires : tie.Need-live-after-requires
-live-after-requires c κs = search needs
+instr-field-requires-2 : tie.Need-instr-field-requires-2
+instr-field-requires-2 c κs = search needs
 
-set64-requires : tie.Need-set64-requires
-set64-requires c κs = search needs
+note-maybe-requires : tie.Need-note-maybe-requires
+note-maybe-requires c κs = search needs
 
 same-length : tie.Need-same-length
 same-length c = search needs
 
 returns : tie.Need-returns
-unfolding noteStep
 returns c = let a = c .before .before .before .before .before .before .before .before .before .before .args in
     λ pool m h.
-    rw (c .before .before .set64 .ensures, c .before .before .before .before .live-after .ensures)
-    (sym (note-yes (now (a .ws)) pool (a .row) (walk (a .s) m h (now (a .noted))) (a .i) (sym (rw (c .before .before .before .before .before .before .before .instr-field .ensures) at (c .before .before .before .before .before .before .calls .ensures)) ∙ c .before .before .before .before .before .if1 .taken)))
+    rw (c .before .before .before .before .instr-field2 .ensures) at (c .before .before .note-maybe .ensures (now (a .ws)) pool m h)
+    ∙ sym (note-yes (now (a .ws)) pool (a .row) (walk (a .s) m h (now (a .noted))) (a .i) (sym (rw (c .before .before .before .before .before .before .before .instr-field .ensures) at (c .before .before .before .before .before .before .calls .ensures)) ∙ c .before .before .before .before .before .if1 .taken))
 
 returns-2 : tie.Need-returns-2
 returns-2 c = let a = c .before .before .before .before .before .args in
@@ -40,8 +39,8 @@ note-row-spec =
     (tie.spec
     instr-field-requires
     calls-requires
-    live-after-requires
-    set64-requires
+    instr-field-requires-2
+    note-maybe-requires
     same-length
     returns
     returns-2)

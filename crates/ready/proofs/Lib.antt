@@ -1,0 +1,5 @@
+pub mod Passes
+pub mod Counted
+pub mod Shaped
+pub mod Keyed
+pub mod Given

@@ -1,0 +1,1 @@
+// No code: what the checks leave to be known.
