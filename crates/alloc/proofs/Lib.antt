@@ -7,6 +7,5 @@ pub mod Keeps
 pub mod Owned
 pub mod Live
 pub mod Outcome
-pub mod Examples
 pub mod Slots
 pub mod Regs

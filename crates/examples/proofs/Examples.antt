@@ -1,8 +1,16 @@
--- Document 01's examples of moves, computed by the definitions for a machine with 32 registers: SCRATCH is 31, TMP is 30.
+-- Document 01's examples marked *, computed by the definitions; those of moves for a machine with 32 registers: SCRATCH is 31, TMP is 30.
 use mathlib.Core.Path.{_≡_, refl}
 use Prim.Native.Nat.{ℕ, _+_}
 use mathlib.Core.List.{[], _∷_}
-use Rattle.place.specs.Places.{slotsFrom}
+use Rattle.base.specs.Masks.{hasBit, withBit, withoutBit}
+use Rattle.place.specs.declared.Reg.the-variants.{Gpr}
+use Rattle.place.specs.declared.Place.the-variants.{Slot, Register}
+use Rattle.place.specs.Places.{slotsFrom, foundOf}
+use Rattle.alloc.specs.declared.Hint.the-variants as hint
+use Rattle.alloc.specs.declared.Got.{Got}
+use Rattle.alloc.specs.declared.Got.the-variants as got
+use Rattle.alloc.specs.State.{maskOf, freshOf}
+use Rattle.alloc.specs.Allocation.{keptOf, goneOf, freeReg, freeSlot, release, releaseAll, expireOf, isFree, takeReg, lastFree, takeSlot, fromPool, hinted, takeOf, enter, newPlace, placeOf}
 use Rattle.op.specs.Ops.{mov, loadSlot, storeSlot}
 use Rattle.moves.specs.Moves.{moves, parkedIn, turns, parksIn, turnOps, turnSources, turnDestinations, turnParks, swapRemove}
 
@@ -33,3 +41,19 @@ example-3 = refl
 pub parked-3 : parkedIn 32 ((slotsFrom + 0) ∷ (slotsFrom + 1) ∷ []) ((slotsFrom + 1) ∷ (slotsFrom + 0) ∷ []) ≡ 1
 unfolding parkedIn parksIn turnSources turnDestinations turnParks swapRemove
 parked-3 = refl
+
+-- 4: one general register, number 3; a value is placed at 0 with an end, then another at 5, whose place this is
+unfoldable pub second : ℕ → Got
+second end =
+    placeOf (0 ∷ 0 ∷ []) 1 0 5 9 hint.Nowhere (3 ∷ [])
+    (placeOf (0 ∷ 0 ∷ []) 0 0 0 end hint.Nowhere (3 ∷ []) (freshOf (3 ∷ []) []) .state) .got
+
+-- end 5, allocate at 5: the register is reused
+pub example-4-reused : second 5 ≡ got.At (Register (Gpr 3))
+unfolding second placeOf newPlace enter takeOf fromPool lastFree expireOf keptOf goneOf releaseAll release freeReg freeSlot takeReg takeSlot isFree hinted freshOf maskOf foundOf hasBit withBit withoutBit
+example-4-reused = refl
+
+-- end 6: not
+pub example-4-kept : second 6 ≡ got.At (Slot 0)
+unfolding second placeOf newPlace enter takeOf fromPool lastFree expireOf keptOf goneOf releaseAll release freeReg freeSlot takeReg takeSlot isFree hinted freshOf maskOf foundOf hasBit withBit withoutBit
+example-4-kept = refl
