@@ -1,0 +1,124 @@
+// Judging a function and giving its places, without compiling it.
+use alloc::Alloc;
+use judge::Verdict;
+ghost use mathlib.Core.Path.{_≡_};
+ghost use mathlib.Core.Bool.{true};
+ghost use mathlib.Core.List.{List};
+ghost use Prim.Native.Nat.{ℕ};
+ghost use lib.Dec.{eqb};
+ghost use lib.Seq.{sets};
+ghost use Rattle.base.specs.Buffers.{zeroFrom};
+ghost use Rattle.place.specs.Registers.{registers};
+ghost use Rattle.judge.specs.Judged.{verdictNumber, unfit};
+ghost use Rattle.assign.specs.Walk.{assigned, slotsOk};
+ghost use Rattle.assign.specs.Fits.{Fits, Lent};
+ghost use Rattle.ready.specs.Ready.{Ready};
+ghost use Rattle.placing.specs.Placing.{roomOk, outcome, outcomeOf};
+
+pub enum Placing {
+    // slots made, and one past the highest general register used
+    Given(u16, u8),
+    Unfit(Verdict),
+    NoSlot,
+    NoRoom,
+}
+
+// Has each buffer a word for each value?
+fn room_ok(ws: &[u32], map: &[u32], hints: &[u32], noted: &[u64]) -> bool
+    ensures { λ x. ⌜ x ≡ roomOk (now (ws .entry)) (now (map .entry)) (now (hints .entry)) (now (noted .entry)) ⌝ }
+{
+    let n = input::head_field(ws, 3) as usize;
+    (n <= map.len()) & (n <= hints.len()) & (n <= noted.len())
+}
+
+// The places go into the first words of the map.
+fn give(ws: &[u32], map: &mut [u32], hints: &mut [u32], noted: &mut [u64]) -> Alloc
+    requires { ⌜ Ready (now ws) ⌝ }
+    requires { ⌜ roomOk (now ws) (now map) (now hints) (now noted) ≡ true ⌝ }
+    ensures { λ s. ⌜ (s ≡ assigned registers (now (ws .entry)) .alloc) × (now (map .exit) ≡ sets (now (map .entry)) 0 (assigned registers (now (ws .entry)) .map)) ⌝ }
+{
+    let n = input::head_field(ws, 3) as usize;
+    assign::give_places(ws, &mut map[..n], &mut hints[..n], &mut noted[..n])
+}
+
+// Does every value get a place? The buffers are work room.
+fn fit_in(ws: &[u32], map: &mut [u32], hints: &mut [u32], noted: &mut [u64]) -> bool
+    requires { ⌜ Fits (now ws) ⌝ }
+    requires { ⌜ Lent (now ws) (now map) (now hints) (now noted) ⌝ }
+    ensures { λ x. ⌜ x ≡ slotsOk registers (now (ws .entry)) ⌝ }
+{
+    assign::give_places(ws, map, hints, noted);
+    assign::all_placed(ws, map)
+}
+
+// The same on arrays of its own: 8 is lower than 9, so it is judged whatever is lent.
+pub fn all_fit(ws: &[u32]) -> bool
+    requires { ⌜ Ready (now ws) ⌝ }
+    ensures { λ x. ⌜ x ≡ slotsOk registers (now (ws .entry)) ⌝ }
+{
+    let n = input::head_field(ws, 3) as usize;
+    let mut map = [0u32; 4096];
+    let mut hints = [0u32; 4096];
+    let mut noted = [0u64; 4096];
+    fit_in(ws, &mut map[..n], &mut hints[..n], &mut noted[..n])
+}
+
+// The places of a function that no refusal from 1 to 7 hits.
+fn fit_places(ws: &[u32], map: &mut [u32], hints: &mut [u32], noted: &mut [u64]) -> Placing
+    requires { ⌜ Ready (now ws) ⌝ }
+    ensures { λ r. ⌜ ((functions : List ℕ) → unfit registers (now (ws .entry)) functions ≡ 0 → outcome r (now (map .exit)) (zeroFrom (now (hints .entry)) 0) (zeroFrom (now (noted .entry)) 0) ≡ outcomeOf registers (now (ws .entry)) functions (now (map .entry)) (now (hints .entry)) (now (noted .entry))) ⌝ }
+{
+    let fits = all_fit(ws);
+    let room = room_ok(ws, map, hints, noted);
+    if !fits {
+        return Placing::NoSlot;
+    }
+    if !room {
+        return Placing::NoRoom;
+    }
+    let s = give(ws, map, hints, noted);
+    Placing::Given(s.made, assign::top_used(s))
+}
+
+// No refusal?
+fn is_fit(v: Verdict) -> bool
+    ensures { λ x. ⌜ x ≡ eqb (verdictNumber v) 0 ⌝ }
+{
+    match v {
+        Verdict::Fit => true,
+        _ => false,
+    }
+}
+
+// The places of any function. The work room is not zero yet.
+fn attempt(
+    ws: &[u32],
+    functions: &[u64],
+    map: &mut [u32],
+    hints: &mut [u32],
+    noted: &mut [u64],
+) -> Placing
+    ensures { λ r. ⌜ outcome r (now (map .exit)) (zeroFrom (now (hints .entry)) 0) (zeroFrom (now (noted .entry)) 0) ≡ outcomeOf registers (now (ws .entry)) (now (functions .entry)) (now (map .entry)) (now (hints .entry)) (now (noted .entry)) ⌝ }
+{
+    let v = judge::judge(ws, functions);
+    if is_fit(v) {
+        return fit_places(ws, map, hints, noted);
+    }
+    Placing::Unfit(v)
+}
+
+// Any words, any function table, any buffers. Hints and noted registers are work room.
+pub fn places(
+    ws: &[u32],
+    functions: &[u64],
+    map: &mut [u32],
+    hints: &mut [u32],
+    noted: &mut [u64],
+) -> Placing
+    ensures { λ r. ⌜ outcome r (now (map .exit)) (now (hints .exit)) (now (noted .exit)) ≡ outcomeOf registers (now (ws .entry)) (now (functions .entry)) (now (map .entry)) (now (hints .entry)) (now (noted .entry)) ⌝ }
+{
+    let r = attempt(ws, functions, map, hints, noted);
+    base::zero32(hints, 0);
+    base::zero64(noted, 0);
+    r
+}
