@@ -18,11 +18,11 @@ use Rattle.shape.specs.Counts.{rowCount, blockCounts, instrCounts, countsOk}
 use Rattle.shape.specs.Shape.{paramsShape, instrShape, edgeShape, noneLive, termShape, shapeOk}
 use Rattle.fit.specs.Intervals.{once, onceOk, fitDef, fitDefs, fitUse, fitUses, fitArgs, fitEdges, fitRow, intervalsOk}
 use Rattle.assign.specs.Steps.{isCall, pins, places, notes, hints, edgeHints, edgesHints, rowSteps}
-use Rattle.assign.specs.Walk.{hintFor, placeStep, pinStep, noteStep, hintStep, step, run, poolOf, firstHints, begin, assigned, placeWord, allPlaced, slotsOk}
+use Rattle.assign.specs.Walk.{hintFor, placeStep, pinStep, noteStep, hintStep, step, run, poolOf, firstHints, begin, assigned, placeWord, slotsMade, allPlaced, slotsOk}
 use Rattle.sharing.specs.Sharing.{Given, RowIs, NoSharing}
 use Rattle.sharing.proofs.Theorem.{sharing}
 
-abbrev loop : List ℕ
+abbrev pub loop : List ℕ
 loop =
     -- function 1: 6 values, 3 blocks, 1 instruction, 3 edges, 8 words of the pool
     1 ∷ 0 ∷ 0 ∷ 6 ∷ 3 ∷ 1 ∷ 3 ∷ 0 ∷ 8 ∷ 32 ∷ 74 ∷ 82 ∷ 91 ∷ 91 ∷
@@ -61,16 +61,16 @@ loop-fits : intervalsOk loop ≡ true
 unfolding fitDef fitDefs fitUse fitUses fitArgs fitEdges fitRow every defined rowIn overRows rowDefs refs rowsFrom blockRows instrRows headField valueField blockField instrField edgeField poolAt listAt
 loop-fits = refl
 
--- registers 0 and 1 for the parameters, 2 for the call's value
-pub loop-places : assigned 22 loop .map ≡ 1 ∷ 2 ∷ 1 ∷ 2 ∷ 3 ∷ 1 ∷ []
+-- registers 0 and 1 for the parameters, 2 for the call's value, and no slot
+pub loop-places : (assigned 22 loop .map ≡ 1 ∷ 2 ∷ 1 ∷ 2 ∷ 3 ∷ 1 ∷ []) × (slotsMade 22 loop ≡ 0)
 unfolding assigned begin firstHints poolOf run step placeStep pinStep noteStep hintStep hintFor pins places notes hints edgeHints edgesHints rowSteps overRows rowsFrom blockRows instrRows headField valueField blockField instrField edgeField poolAt listAt alloc.placeOf alloc.mapAfterPlace alloc.mapEntered alloc.newPlace alloc.enter alloc.takeOf alloc.fromPool alloc.lastFree alloc.hinted alloc.takeReg alloc.takeSlot alloc.isFree alloc.expireOf alloc.keptOf alloc.goneOf alloc.releaseAll alloc.release alloc.freeReg alloc.freeSlot alloc.pinOf alloc.mapAfterPin alloc.liveAfter freshOf maskOf foundOf placeOf hasBit withBit withoutBit
-loop-places = refl
+loop-places = (refl, refl)
 
 loop-slots : slotsOk 22 loop ≡ true
 unfolding allPlaced overRows rowDefs refs rowsFrom blockRows instrRows headField blockField instrField poolAt listAt
-loop-slots = rw loop-places
+loop-slots = rw (loop-places .0)
 
-loop-given : Given 22 loop
+pub loop-given : Given 22 loop
 loop-given =
     record {
       words = loop-words;
@@ -112,4 +112,4 @@ pub second-noted : hasBit (getD (assigned 22 loop .noted) 4 0) 1 ≡ true
 unfolding rowIn overRows rowDefs refs rowsFrom blockRows instrRows headField blockField instrField poolAt listAt
 second-noted =
     loop-theorem .notes 0 4 3 call-row is-call refl 1 (lit≤ tt)
-    (record { value = 3; in-use = second-in-use; before = lit≤ tt; there = ap (λ (m : List ℕ). getD m 3 0) loop-places })
+    (record { value = 3; in-use = second-in-use; before = lit≤ tt; there = ap (λ (m : List ℕ). getD m 3 0) (loop-places .0) })

@@ -1,5 +1,5 @@
 -- The read parameters of a block have different places: they are in use at its first row, and none stands there twice.
-use Prim.Native.Nat.{ℕ, _+_, _<_}
+use Prim.Native.Nat.{ℕ, _+_, _<_, _≤_}
 use mathlib.Core.Bool.{Bool, true, false}
 use mathlib.Core.List.{List, [], _∷_, _++_, List·Memᴰ·not-nil, List·Memᴰ·cases-cons, Memᴰ·append-left, Memᴰ·append-right}
 use mathlib.Core.Logic.{⊎-elim}
@@ -39,6 +39,11 @@ read-lasts ws r v h l =
     let last : Bool = pick (ltb r e) (ltb s e) (leb e s) in
     read-case r s e (ltb r e) refl l (both-right (leb s e) last (both-right (ltb s 4294967295) (both (leb s e) last) h))
 
+fit-ordered : (ws : List ℕ) (r v : ℕ) → fitDef ws (ref r v) ≡ true → startOf ws v ≤ endOf ws v
+unfolding fitDef
+fit-ordered ws r v h =
+    leb-true (startOf ws v) (endOf ws v) (both-left (leb (startOf ws v) (endOf ws v)) _ (both-right (ltb (startOf ws v) 4294967295) _ h))
+
 params-defs : (ws : List ℕ) (r b : ℕ) (ys : List Row) → overRows (rowDefs ws) r (params b ∷ ys) ≡ refs r (paramsOf ws b) ++ overRows (rowDefs ws) (r + 1) ys
 unfolding overRows rowDefs
 params-defs ws r b ys = refl
@@ -47,8 +52,13 @@ params-fit : (ws : List ℕ) (ds : List Ref) (r b : ℕ) → fitRow ws ds r (par
 unfolding fitRow
 params-fit ws ds r b h = h
 
+-- what is known of a parameter, at row r: its start is at most its end, and if it is read it is in use there
+pub record ParamFits (ws : List ℕ) (v r : ℕ) : Type 0 where
+  pub ordered : startOf ws v ≤ endOf ws v
+  pub in-use : startOf ws v < endOf ws v → InUse ws v r
+
 -- ---- the parameters of block b, behind the rows xs
-module _ (n : ℕ) (ws : List ℕ) (o : onceOk ws ≡ true) (fit : intervalsOk ws ≡ true) (b : ℕ) (xs ys : List Row) (at : rowsOf ws ≡ xs ++ params b ∷ ys) where
+module _ (ws : List ℕ) (o : onceOk ws ≡ true) (fit : intervalsOk ws ≡ true) (b : ℕ) (xs ys : List Row) (at : rowsOf ws ≡ xs ++ params b ∷ ys) where
   abbrev row : ℕ
   row = 0 + length xs
 
@@ -68,26 +78,26 @@ module _ (n : ℕ) (ws : List ℕ) (o : onceOk ws ≡ true) (fit : intervalsOk w
       once-left (refs row vs) rest
       (once-right (overRows (rowDefs ws) 0 xs) (refs row vs ++ rest) (subst (λ (l : List Ref). once l ≡ true) split o))
 
-  param-in-use : (i : ℕ) → i < length vs → startOf ws (getD vs i 0) < endOf ws (getD vs i 0) → InUse ws (getD vs i 0) row
-  param-in-use i l read =
+  param-fits : (i : ℕ) → i < length vs → ParamFits ws (getD vs i 0) row
+  param-fits i l =
       let v : ℕ = getD vs i 0 in
       let here : Did row v (refs row vs) = refs-did row vs i l in
       let d : Did row v (defsOf ws) = subst (Did row v) (sym split) (Memᴰ·append-right (overRows (rowDefs ws) 0 xs) (Memᴰ·append-left rest here)) in
       let f : fitDefs ws (refs row vs) ≡ true =
       params-fit ws (defsOf ws) row b
       (every-at (fitRow ws (defsOf ws)) 0 xs (params b) ys (subst (λ (l : List Row). every (fitRow ws (defsOf ws)) 0 l ≡ true) at fit)) in
+      let g : fitDef ws (ref row v) ≡ true = fit-each ws (refs row vs) row v f here in
       let e = once-row row v (defsOf ws) o d in
       record {
-        is = did-defined row v (defsOf ws) d;
-        from = omega (arith, e);
-        until = read-lasts ws row v (fit-each ws (refs row vs) row v f here) read;
+        ordered = fit-ordered ws row v g;
+        in-use = λ read. record { is = did-defined row v (defsOf ws) d; from = omega (arith, e); until = read-lasts ws row v g read };
       }
 
-  params-differ : slotsOk n ws ≡ true → (i j : ℕ) → i < length vs → j < length vs → startOf ws (getD vs i 0) < endOf ws (getD vs i 0)
+  params-differ : (n : ℕ) → slotsOk n ws ≡ true → (i j : ℕ) → i < length vs → j < length vs → startOf ws (getD vs i 0) < endOf ws (getD vs i 0)
       → startOf ws (getD vs j 0) < endOf ws (getD vs j 0) → placeWord n ws (getD vs i 0) ≡ placeWord n ws (getD vs j 0) → i ≡ j
-  params-differ all i j l k read read′ e =
+  params-differ n all i j l k read read′ e =
       refs-apart row vs i j params-once l k
-      (all-apart n ws o all (getD vs i 0) (getD vs j 0) row (param-in-use i l read) (param-in-use j k read′) e)
+      (all-apart n ws o all (getD vs i 0) (getD vs j 0) row (param-fits i l .in-use read) (param-fits j k .in-use read′) e)
 
 pub params-apart : (n : ℕ) (ws : List ℕ) → onceOk ws ≡ true → intervalsOk ws ≡ true → slotsOk n ws ≡ true → (b i j : ℕ) → b < blocks ws → isLive ws b ≡ true
     → i < length (paramsOf ws b) → j < length (paramsOf ws b)
@@ -96,4 +106,11 @@ pub params-apart : (n : ℕ) (ws : List ℕ) → onceOk ws ≡ true → interval
     → placeWord n ws (getD (paramsOf ws b) i 0) ≡ placeWord n ws (getD (paramsOf ws b) j 0) → i ≡ j
 params-apart n ws o fit all b i j lb live =
     let a : At (rowsOf ws) (params b) = params-at ws 0 (blocks ws) b (omega arith) (omega arith) live in
-    params-differ n ws o fit b (a .before) (a .after) (a .is) all i j
+    params-differ ws o fit b (a .before) (a .after) (a .is) n all i j
+
+-- so it is with each parameter of a live block
+pub block-param-fits : (ws : List ℕ) → onceOk ws ≡ true → intervalsOk ws ≡ true → (b i : ℕ) → b < blocks ws → isLive ws b ≡ true
+    → i < length (paramsOf ws b) → (r : ℕ) × ParamFits ws (getD (paramsOf ws b) i 0) r
+block-param-fits ws o fit b i lb live l =
+    let a : At (rowsOf ws) (params b) = params-at ws 0 (blocks ws) b (omega arith) (omega arith) live in
+    (0 + length (a .before), param-fits ws o fit b (a .before) (a .after) (a .is) i l)

@@ -1,0 +1,1 @@
+// The rule of calls and tails: specs/Calls.antt.

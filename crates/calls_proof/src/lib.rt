@@ -1,0 +1,1 @@
+// The theorem on calls and tails: its statement is specs/CallsRight.antt, its proof stands in proofs/.

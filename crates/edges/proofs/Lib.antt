@@ -1,0 +1,4 @@
+pub mod Columns
+pub mod Moved
+pub mod Emitting
+pub mod Padding
