@@ -15,7 +15,7 @@ use Rattle.fit.specs.Keys.{keysAt, allInt, ranked, largest, smallest, ke
 unfoldable pub keysFrom : List ℕ → ℕ → ℕ → List ℕ → Bool
 keysFrom ws low high cs = both (allInt ws cs) (ltb (max high (largest ws cs) - min low (smallest ws cs)) mostTableSlots)
 
-smallest-most : (ws cs : List ℕ) → smallest ws cs ≤ 2 ^ 64 - 1
+pub smallest-most : (ws cs : List ℕ) → smallest ws cs ≤ 2 ^ 64 - 1
 unfolding smallest
 smallest-most ws [] = omega arith
 smallest-most ws (c ∷ cs) = omega (arith, smallest-most ws cs)

@@ -7,7 +7,7 @@ ghost use lib.Dec.{ltb};
 ghost use Rattle.base.specs.Choice.{pick};
 ghost use Rattle.base.specs.Limits.{mostTableSlots};
 ghost use Rattle.input.specs.Layout.{listAt, edgeField, constantField};
-ghost use Rattle.input.specs.Records.{paramsOf, argumentsOf, edgeTarget};
+ghost use Rattle.input.specs.Records.{paramsOf, argumentsOf, edgeTarget, payloadOf};
 ghost use Rattle.rows.specs.Rows.{Ref, ref, refs, rowDefs, params, instr, term};
 ghost use Rattle.fit.specs.Intervals.{fitDef, fitDefs, fitUse, fitUses, unread, fitArgs, fitEdges, fitRow};
 ghost use Rattle.fit.specs.Tabled.{Tabled, marks, mark, marked};
@@ -278,7 +278,7 @@ pub fn callee_term(ws: &[u32], functions: &[u64], b: u32) -> bool
 }
 
 // Field k of a constant: its number may pass 32 bits.
-fn constant_at(ws: &[u32], c: usize, k: u32) -> u32
+pub fn constant_at(ws: &[u32], c: usize, k: u32) -> u32
     requires { ⌜ c < 2 ^ 48 ⌝ }
     ensures { λ x. ⌜ x ≡ constantField (now (ws .entry)) c k ⌝ }
 {
@@ -286,24 +286,32 @@ fn constant_at(ws: &[u32], c: usize, k: u32) -> u32
     base::get32(ws, from + 3 * c + (k as usize))
 }
 
-// A key's place in the order of signed numbers, from 0 for the least.
-fn rank(ws: &[u32], c: usize) -> u64
+// The payload of a constant.
+pub fn payload_at(ws: &[u32], c: usize) -> u64
     requires { ⌜ c < 2 ^ 48 ⌝ }
-    ensures { λ x. ⌜ x ≡ ranked (now (ws .entry)) c ⌝ }
+    ensures { λ x. ⌜ x ≡ payloadOf (now (ws .entry)) c ⌝ }
 {
     let low = constant_at(ws, c, 1) as u64;
     let high = constant_at(ws, c, 2) as u64;
-    std::num::wrapping_add_u64(low + 4294967296 * high, 9223372036854775808)
+    low + 4294967296 * high
+}
+
+// A key's place in the order of signed numbers, from 0 for the least.
+pub fn rank(ws: &[u32], c: usize) -> u64
+    requires { ⌜ c < 2 ^ 48 ⌝ }
+    ensures { λ x. ⌜ x ≡ ranked (now (ws .entry)) c ⌝ }
+{
+    std::num::wrapping_add_u64(payload_at(ws, c), 9223372036854775808)
 }
 
 // The lesser and the greater of two ranks.
-fn lesser(a: u64, b: u64) -> u64
+pub fn lesser(a: u64, b: u64) -> u64
     ensures { λ x. ⌜ x ≡ min a b ⌝ }
 {
     if a < b { a } else { b }
 }
 
-fn greater(a: u64, b: u64) -> u64
+pub fn greater(a: u64, b: u64) -> u64
     ensures { λ x. ⌜ x ≡ max a b ⌝ }
 {
     if a < b { b } else { a }
