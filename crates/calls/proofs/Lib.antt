@@ -1,0 +1,4 @@
+pub mod Masked
+pub mod Shuffling
+pub mod Calling
+pub mod Examples
