@@ -3,6 +3,9 @@
 //! File: the number of programs; each is written twice, before and after: the number of ops, their words, low half first, their spans; the
 //! number of entries of its switch tables, those entries, table after table; the number of words of its function table, those words, low half
 //! first.
+//!
+//! Behind the line on the file the program that replays it prints one for each call that it makes by hand and that is refused, with document
+//! 01's number.
 use garden::bc::Cc;
 use garden::compile::{Code, compact, compile_then, empty};
 use garden::op::{LookupTable, Op, SwitchKind, SwitchTable};
@@ -13,24 +16,45 @@ use std::ptr::NonNull;
 
 const SEED: u64 = 0x4f08286203;
 
+/// The calls by hand. The numbers are document 01's, not the Rust's, which judges nothing.
+const REFUSED: &str = "\
+Jmp 9 alone: 11
+a word that is no op: 1
+a used length beyond the ops: 2
+a used length beyond the spans: 2
+a used length beyond the switch entries: 2
+work room one short: 9
+a switch entry beyond the ops: 11
+a function start beyond the ops: 11
+a word that is no op, and a target beyond the ops: 1
+work room one short, and a target beyond the ops: 9
+65535 ops: 2";
+
+/// Document 01's most ops of a program.
+const MOST_OPS: usize = 65534;
+
 /// Not there, bytecode at three pcs, native code whose numbers could be pcs.
 fn functions(ops: usize) -> Vec<u64> {
     let bytecode = |pc: usize| 1 | (pc as u64) << 2;
     vec![0, bytecode(0), bytecode(ops / 2), bytecode(ops), 2 | 1 << 2, 3 | 2 << 2]
 }
 
-/// A program of these ops whose tables lead to every pc and the end.
-fn every_target(ops: Vec<Op>) -> (Code, Code) {
+/// A program of these ops and two tables, the second one the first backwards.
+fn with_targets(ops: Vec<Op>, targets: Vec<u16>) -> (Code, Code) {
     let table = functions(ops.len());
     let mut cc = empty(&table);
-    let all: Vec<u16> = (0..=ops.len() as u16).collect();
-    // two tables, the second one backwards
-    for targets in [all.clone(), all.into_iter().rev().collect()] {
+    for targets in [targets.clone(), targets.into_iter().rev().collect()] {
         cc.switch_tables.push(Box::new(SwitchTable { first: 5, targets: targets.into() }));
     }
     cc.pc_to_span = (0..ops.len() as u32).map(|pc| 1000 + pc).collect();
     cc.buf = ops;
     compact(cc, table.len())
+}
+
+/// A program of these ops whose tables lead to every pc and the end.
+fn every_target(ops: Vec<Op>) -> (Code, Code) {
+    let all: Vec<u16> = (0..=ops.len() as u16).collect();
+    with_targets(ops, all)
 }
 
 /// Each op that holds a pc, at this one.
@@ -103,6 +127,20 @@ fn with_tables() -> (Code, Code) {
     compact(cc, 6)
 }
 
+/// A program of so many ops, every other one Nop, whose pcs and tables lead everywhere.
+fn half_nops(count: usize) -> (Code, Code) {
+    let plain = plain();
+    let op = |pc: usize| match pc % 4 {
+        1 => holding((pc * 7919 % (count + 1)) as u16)[pc / 4 % 9],
+        3 => plain[pc / 4 % plain.len()],
+        _ => Op::Nop,
+    };
+    // as many as a table may have where there are as many ops as there may be
+    let slots = count / 16 + 1;
+    let targets = (0..slots).map(|k| (k * count / (slots - 1).max(1)) as u16).collect();
+    with_targets((0..count).map(op).collect(), targets)
+}
+
 fn by_hand() -> Vec<(Code, Code)> {
     let kinds = [plain(), holding(0)].concat();
     let end = kinds.len();
@@ -119,7 +157,7 @@ fn by_hand() -> Vec<(Code, Code)> {
     let wide: Vec<Op> = (0..70).flat_map(|k| with_nops(&holding(k * 10), &[(k as usize % 9, 1)])).collect();
     let (before, after) = every_target(wide);
     assert!(before.ops.len() > 512 && after.ops.len() > 512);
-    all.extend([(before, after), with_tables()]);
+    all.extend([(before, after), with_tables(), half_nops(MOST_OPS)]);
     all
 }
 
@@ -150,14 +188,28 @@ fn write(out: &mut Vec<u32>, code: &Code) {
     out.extend(wide(&code.functions));
 }
 
-pub fn vectors() -> (Vec<u32>, String) {
-    let mut all = by_hand();
-    all.extend((0..75).map(compiled));
-    let (mut out, mut ops) = (vec![all.len() as u32], 0);
-    for (before, after) in &all {
-        ops += before.ops.len();
+fn file(all: &[(Code, Code)]) -> Vec<u32> {
+    let mut out = vec![all.len() as u32];
+    for (before, after) in all {
         write(&mut out, before);
         write(&mut out, after);
     }
-    (out, format!("{} programs, {ops} ops, 0 differ", all.len()))
+    out
+}
+
+pub fn vectors() -> (Vec<u32>, String) {
+    let mut all = by_hand();
+    all.extend((0..75).map(compiled));
+    let ops: usize = all.iter().map(|(before, _)| before.ops.len()).sum();
+    (file(&all), format!("{} programs, {ops} ops, 0 differ\n{REFUSED}", all.len()))
+}
+
+/// A program of so many ops, half of them Nops, many times over, to time it; or one that is refused at its first op, for the time of the rest.
+pub fn repeat(ops: usize, count: usize, refused: bool) -> (Vec<u32>, String) {
+    let (mut before, after) = half_nops(ops);
+    if refused {
+        before.ops[0] = 61;
+    }
+    let differ = if refused { count } else { 0 };
+    (file(&vec![(before, after); count]), format!("{count} programs, {} ops, {differ} differ", ops * count))
 }
