@@ -46,11 +46,11 @@ shuffle n places pushes arguments = movePairs n (argumentPlaces places pushes ar
 unfoldable pub callWith : ℕ → List ℕ → List ℕ → List ℕ → ℕ → ℕ → Out → Out
 callWith n places pushes arguments called dst =
     into n dst (λ d o.
-        emitAll (map word (popsOf (reverse pushes)))
-        (emit (word (op.mov d 0))
-        (emit called
-        (shuffle n places (length pushes) arguments
-        (emitAll (map word (pushesOf pushes)) o)))))
+    emitAll (map word (popsOf (reverse pushes)))
+    (emit (word (op.mov d 0))
+    (emit called
+    (shuffle n places (length pushes) arguments
+    (emitAll (map word (pushesOf pushes)) o)))))
 
 -- the op that calls the function of a table word
 unfoldable pub calledAs : ℕ → ℕ
