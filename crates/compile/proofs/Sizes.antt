@@ -1,0 +1,166 @@
+-- Used lengths, rooms and refusals 1 to 7, over plain numbers.
+use mathlib.Core.Path.{_≡_, refl, sym, ap, _∙_}
+use mathlib.Core.Logic.{⊎-elim}
+use mathlib.Core.Bool.{Bool, true, false, _&&_}
+use mathlib.Core.List.{List}
+use Prim.Native.Nat.{ℕ, _+_, _*_, _-_, _/_, _≤_, _<_, min}
+use native.Mathlib.Nat.{mul-le-mul, mul-le-mul-left, mul-div-le, div-lt-iff-lt-mul, mul-comm}
+use native.Mathlib.Omega.{arith}
+use borrow.Author.Tests.{lt-ltb, le-ltb, eq-eqb, ne-eqb}
+use lib.Dec.{leb, ltb, eqb}
+use lib.ListN.{length, getD}
+use Rattle.base.specs.Choice.{pick}
+use Rattle.base.specs.Limits.{mostOfAKind}
+use Rattle.base.specs.Buffers.{zeroFrom}
+use Rattle.base.proofs.Buffers.{zeroFrom-past}
+use Rattle.base.proofs.Numbers.{lt?, pick-true}
+use Rattle.base.proofs.Numbers as test
+use Rattle.input.specs.Forms.{both, wordsOk}
+use Rattle.input.proofs.Chain.{all-seven}
+use Rattle.shape.specs.Counts.{countsOk}
+use Rattle.shape.specs.Shape.{shapeOk}
+use Rattle.fit.specs.Intervals.{onceOk, intervalsOk}
+use Rattle.fit.specs.Callees.{calleesOk}
+use Rattle.fit.specs.Keys.{keyedOk}
+use Rattle.judge.specs.Judged.{unfit}
+use Rattle.judge.proofs.Lowest.{bad-word}
+use Rattle.compile.specs.declared.Used.{Used}
+use Rattle.compile.specs.declared.Lengths.{Lengths}
+use Rattle.compile.specs.Program.{Buffers}
+use Rattle.compile.specs.Compile.{usedOk, lastOf}
+use Rattle.compile.specs.Attempt.{Sized}
+
+-- a number that is none of the nine below 9
+past : (k a : ℕ) → a ≤ k → (k ≡ a → ⊥) → a + 1 ≤ k
+past k a h n = omega arith
+
+pub nine : (k : ℕ) → k ≤ 9 → (k ≡ 0 → ⊥) → (k ≡ 1 → ⊥) → (k ≡ 2 → ⊥) → (k ≡ 3 → ⊥) → (k ≡ 4 → ⊥) → (k ≡ 5 → ⊥) → (k ≡ 6 → ⊥)
+    → (k ≡ 7 → ⊥) → (k ≡ 8 → ⊥) → 9 ≡ k
+nine k h a b c d e f g i j =
+    ends k h
+    (past k 8 (past k 7 (past k 6 (past k 5 (past k 4 (past k 3 (past k 2 (past k 1 (past k 0 (zero-le k) a) b) c) d) e) f) g) i) j)
+  where
+    ends : (k : ℕ) → k ≤ 9 → 9 ≤ k → 9 ≡ k
+    ends k h l = omega arith
+
+    zero-le : (k : ℕ) → 0 ≤ k
+    zero-le k = omega arith
+
+-- a chain that ends with a test that passes, and with one that fails
+pub goes : (x y : Bool) → y ≡ true → x ≡ both x y
+goes true y e = sym e
+goes false y e = refl
+
+pub fails : (x y : Bool) → y ≡ false → false ≡ both x y
+fails true y e = sym e
+fails false y e = refl
+
+-- slots are counted in 32 bits
+pub slots-over : (used : ℕ) → 4294967295 < used → ltb used 4294967296 ≡ false
+slots-over used h = le-ltb used 4294967296 (omega arith)
+
+pub slots-few : (used : ℕ) → used ≤ 4294967295 → ltb used 4294967296 ≡ true
+slots-few used h = lt-ltb used 4294967296 (omega arith)
+
+-- records of few words, of which there are at most so many
+pub product : (words used most : ℕ) → words ≤ 5 → used ≤ most → words * used ≤ 5 * most
+product words used most h k = mul-le-mul h k
+
+-- records of a buffer, and those that pass it
+pub records-in : (words used size : ℕ) → used ≤ size / words → words * used ≤ size
+records-in words used size h =
+    let a : words * used ≤ words * (size / words) = mul-le-mul-left words h in
+    omega (arith, mul-div-le size words)
+
+pub records-past : (words used size : ℕ) → 1 ≤ words → size / words < used → size ≤ words * used
+records-past words used size h k =
+    let a : size < used * words = div-lt-iff-lt-mul {k = words} (omega arith) .0 k in
+    rw (mul-comm words used) (omega arith)
+
+pub wiped-past : (l : List ℕ) (words used : ℕ) → 1 ≤ words → length l / words < used → l ≡ zeroFrom l (words * used)
+wiped-past l words used h k = sym (zeroFrom-past l (words * used) (records-past words used (length l) h k))
+
+-- an entry in the function table: below both bounds is below the lower
+pub under-both : (x : Bool) (k a b : ℕ) → (x && ltb k a && ltb k b) ≡ both x (ltb k (min a b))
+under-both false k a b = refl
+under-both true k a b =
+    ⊎-elim
+    (λ (p : k < a).
+    ⊎-elim
+    (λ (q : k < b). rw (lt-ltb k a p, lt-ltb k b q, lt-ltb k (min a b) (omega arith)))
+    (λ (q : b ≤ k). rw (lt-ltb k a p, le-ltb k b q, le-ltb k (min a b) (omega arith)))
+    (lt? k b))
+    (λ (p : a ≤ k). rw (le-ltb k a p, le-ltb k (min a b) (omega arith)))
+    (lt? k a)
+
+-- the words that there is room for
+pub room-most : (words n : ℕ) → mostOfAKind < n → words * mostOfAKind ≡ words * min n mostOfAKind
+room-most words n h = let e : mostOfAKind ≡ min n mostOfAKind = omega arith in ap (λ (m : ℕ). words * m) e
+
+pub room-some : (words n : ℕ) → n ≤ mostOfAKind → words * n ≡ words * min n mostOfAKind
+room-some words n h = let e : n ≡ min n mostOfAKind = omega arith in ap (λ (m : ℕ). words * m) e
+
+-- the program's last op
+pub last-none : (ops : List ℕ) (used : ℕ) → used ≡ 0 → 0 ≡ lastOf ops used
+last-none ops used e = rw (eq-eqb used 0 e)
+
+pub last-some : (ops : List ℕ) (used : ℕ) → (used ≡ 0 → ⊥) → getD ops (used - 1) 0 ≡ lastOf ops used
+last-some ops used e = rw (ne-eqb used 0 e)
+
+-- eight tests joined by `&`
+all-eight : (p q r s t u v w : Bool)
+    → (((((((p && q) && r) && s) && t) && u) && v) && w) ≡ both p (both q (both r (both s (both t (both u (both v w))))))
+all-eight true q r s t u v w = all-seven q r s t u v w
+all-eight false q r s t u v w = refl
+
+-- the used lengths, each by its own test
+pub used-is : (n : Lengths) (u : Used) (b : Buffers) → Sized n b → (p q r s t v w x : Bool)
+    → p ≡ both (leb (1 * u .ops) (n .ops)) (leb (u .ops) mostOfAKind)
+    → q ≡ both (leb (1 * u .ops) (n .spans)) (leb (u .ops) mostOfAKind)
+    → r ≡ both (leb (2 * u .globals) (n .globals)) (leb (u .globals) mostOfAKind)
+    → s ≡ both (leb (1 * u .builtins) (n .builtins)) (leb (u .builtins) mostOfAKind)
+    → t ≡ both (leb (3 * u .switches) (n .switches)) (leb (u .switches) mostOfAKind)
+    → v ≡ both (leb (1 * u .targets) (n .targets)) (ltb (u .targets) 4294967296)
+    → w ≡ both (leb (5 * u .lookups) (n .lookups)) (leb (u .lookups) mostOfAKind)
+    → x ≡ both (leb (2 * u .values) (n .values)) (ltb (u .values) 4294967296)
+    → (((((((p && q) && r) && s) && t) && v) && w) && x) ≡ usedOk b u
+unfolding usedOk
+used-is n u b z p q r s t v w x a c d e f g h i =
+    all-eight p q r s t v w x
+    ∙ rw (a, c, d, e, f, g, h, i, z .ops, z .spans, z .globals, z .builtins, z .switches, z .targets, z .lookups, z .values)
+
+-- ---- refusals 1 to 7
+-- a refusal above 1, or what comes before it
+above : (t : Bool) (x k : ℕ) → (x ≡ 1 → ⊥) → 1 < k → pick t x k ≡ 1 → ⊥
+above true x k h l e = h e
+above false x k h l e = omega arith
+
+-- words that pass get another number than 1
+not-one : (n : ℕ) (ws functions : List ℕ) → wordsOk ws ≡ true → unfit n ws functions ≡ 1 → ⊥
+unfolding unfit
+not-one n ws functions h e =
+    above (countsOk n ws) _ 2
+    (above (shapeOk ws) _ 3
+    (above (onceOk ws) _ 4
+    (above (intervalsOk ws) _ 5
+    (above (calleesOk ws functions) _ 6 (above (keyedOk ws) 0 7 (λ q. omega arith) (omega arith)) (omega arith)) (omega arith)) (omega arith)) (omega arith))
+    (omega arith)
+    (sym (pick-true (wordsOk ws) _ 1 h) ∙ e)
+
+module _ (n : ℕ) (ws functions : List ℕ) (v : ℕ) (is : v ≡ unfit n ws functions) where
+  pub early-word : (x : ℕ) → v ≡ 1 → 1 ≡ pick (wordsOk ws) x 1
+  early-word x e =
+      ⊎-elim
+      (λ (h : wordsOk ws ≡ true). absurd (not-one n ws functions h (sym is ∙ e)))
+      (λ (h : wordsOk ws ≡ false). rw h)
+      (test.both (wordsOk ws))
+
+  early-good : (v ≡ 1 → ⊥) → wordsOk ws ≡ true
+  early-good h =
+      ⊎-elim (λ (e : wordsOk ws ≡ true). e) (λ (e : wordsOk ws ≡ false). absurd (h (is ∙ sym (bad-word ws functions n e)))) (test.both (wordsOk ws))
+
+  pub early-many : (v ≡ 1 → ⊥) → (t : Bool) → t ≡ false → 2 ≡ pick (wordsOk ws) (pick t (unfit n ws functions) 2) 1
+  early-many h t e = rw (early-good h, e)
+
+  pub early-rest : (v ≡ 1 → ⊥) → (t : Bool) → t ≡ true → v ≡ pick (wordsOk ws) (pick t (unfit n ws functions) 2) 1
+  early-rest h t e = rw (early-good h, e) is

@@ -1,0 +1,75 @@
+-- What the steps of compiling know and leave.
+use mathlib.Core.Path.{_≡_}
+use Prim.Native.Nat.{ℕ, _≤_}
+use mathlib.Core.List.{List}
+use lib.ListN.{length, take}
+use lib.Seq.{sets}
+use Rattle.base.specs.Buffers.{zeroFrom}
+use Rattle.input.specs.Layout.{values}
+use Rattle.assign.specs.Walk.{assigned, slotsMade, topUsed}
+use Rattle.compile.specs.declared.Placed.{Placed}
+use Rattle.compile.specs.declared.Used.{Used}
+use Rattle.compile.specs.declared.Lengths.{Lengths}
+use Rattle.compile.specs.declared.Tried.{Tried}
+use Rattle.compile.specs.Program.{Buffers, Outcome, globalWords, switchWords, lookupWords, valueWords}
+use Rattle.compile.specs.Compile.{placesOf, refusal, doneOf}
+
+-- the lengths of the buffers
+pub record Sized (n : Lengths) (b : Buffers) : Type 0 where
+  pub ops : n .ops ≡ length (b .ops)
+  pub spans : n .spans ≡ length (b .spans)
+  pub globals : n .globals ≡ length (b .globals)
+  pub builtins : n .builtins ≡ length (b .builtins)
+  pub functions : n .functions ≡ length (b .functions)
+  pub switches : n .switches ≡ length (b .switches)
+  pub targets : n .targets ≡ length (b .targets)
+  pub lookups : n .lookups ≡ length (b .lookups)
+  pub values : n .values ≡ length (b .values)
+  pub labels : n .labels ≡ length (b .labels)
+
+-- Places given: a word for each value in front of the place buffer, and the registers noted for each.
+pub record Given (n : ℕ) (ws places places′ noted′ : List ℕ) (r : Placed) : Type 0 where
+  pub places-is : places′ ≡ sets places 0 (placesOf n ws)
+  pub places-there : values ws ≤ length places
+  pub noted-is : take (values ws) noted′ ≡ assigned n ws .noted
+  pub noted-there : values ws ≤ length noted′
+  pub slots-is : r .slots ≡ slotsMade n ws
+  pub slots-few : r .slots ≤ 128
+  pub top-is : r .top ≡ topUsed n ws
+  pub top-low : r .top ≤ 64
+
+-- Done, but for the work room: the used lengths and every output buffer.
+pub record Finished (o : Outcome) (u : Used) (b : Buffers) : Type 0 where
+  pub used-is : u ≡ o .used
+  pub ops-is : b .ops ≡ o .buffers .ops
+  pub spans-is : b .spans ≡ o .buffers .spans
+  pub globals-is : b .globals ≡ o .buffers .globals
+  pub builtins-is : b .builtins ≡ o .buffers .builtins
+  pub functions-is : b .functions ≡ o .buffers .functions
+  pub switches-is : b .switches ≡ o .buffers .switches
+  pub targets-is : b .targets ≡ o .buffers .targets
+  pub lookups-is : b .lookups ≡ o .buffers .lookups
+  pub values-is : b .values ≡ o .buffers .values
+  pub places-is : b .places ≡ o .buffers .places
+
+-- Refused, but for zeroing: what stands before the used lengths is kept, and so is the function table.
+pub record Kept (u : Used) (b b′ : Buffers) : Type 0 where
+  pub ops-kept : zeroFrom (b′ .ops) (u .ops) ≡ zeroFrom (b .ops) (u .ops)
+  pub spans-kept : zeroFrom (b′ .spans) (u .ops) ≡ zeroFrom (b .spans) (u .ops)
+  pub globals-kept : zeroFrom (b′ .globals) (globalWords u) ≡ zeroFrom (b .globals) (globalWords u)
+  pub builtins-kept : zeroFrom (b′ .builtins) (u .builtins) ≡ zeroFrom (b .builtins) (u .builtins)
+  pub functions-kept : b′ .functions ≡ b .functions
+  pub switches-kept : zeroFrom (b′ .switches) (switchWords u) ≡ zeroFrom (b .switches) (switchWords u)
+  pub targets-kept : zeroFrom (b′ .targets) (u .targets) ≡ zeroFrom (b .targets) (u .targets)
+  pub lookups-kept : zeroFrom (b′ .lookups) (lookupWords u) ≡ zeroFrom (b .lookups) (lookupWords u)
+  pub values-kept : zeroFrom (b′ .values) (valueWords u) ≡ zeroFrom (b .values) (valueWords u)
+
+-- What an attempt leaves of the buffers b: b′. The place buffer and the work room keep their lengths.
+pub record Attempted (n : ℕ) (ws : List ℕ) (u : Used) (b b′ : Buffers) (r : Tried) : Type 0 where
+  pub number-is : r .number ≡ refusal n ws b u
+  pub done : r .number ≡ 0 → Finished (doneOf n ws b u) (r .used) b′
+  pub refused : (r .number ≡ 0 → ⊥) → Kept u b b′
+  pub places-same : length (b′ .places) ≡ length (b .places)
+  pub hints-same : length (b′ .hints) ≡ length (b .hints)
+  pub noted-same : length (b′ .noted) ≡ length (b .noted)
+  pub labels-same : length (b′ .labels) ≡ length (b .labels)
