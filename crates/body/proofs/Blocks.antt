@@ -20,8 +20,9 @@ use Rattle.rows.proofs.Every.{length-live}
 use Rattle.edges.specs.Edges.{hasMoves, padCount}
 use Rattle.ready.specs.Ready.{Ready, Live, InstrOf}
 use Rattle.body.specs.declared.Tally.{Tally}
-use Rattle.body.specs.Body.{Env, lookupsIn, instrsOps, termOps, nextLive, tallied, isSwitch, blockOps, blocksOps, rootRet, bodyOps}
-use Rattle.body.specs.Needs.{InstrReady}
+use Rattle.instrs.specs.Instrs.{Env, lookupsIn, instrsOps}
+use Rattle.body.specs.Body.{termOps, nextLive, tallied, isSwitch, blockOps, blocksOps, rootRet, bodyOps}
+use Rattle.instrs.specs.Needs.{InstrReady}
 
 -- ---- a block: its label, its instructions, its terminator
 pub block-as : (n : ℕ) (env : Env) (t : Tally) (b₀ k : ℕ) {first count next : ℕ} {o b l o₁ b₁ l₁ o₂ b₂ l₂ o₃ b₃ l₃ : List ℕ} {p p₁ p₂ p₃ : Pen}

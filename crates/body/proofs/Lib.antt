@@ -1,7 +1,5 @@
-pub mod Chosen
-pub mod Places
+pub mod Ends
 pub mod Walks
-pub mod Instrs
 pub mod Terms
 pub mod Blocks
 pub mod Grows

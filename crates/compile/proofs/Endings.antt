@@ -1,5 +1,5 @@
 -- How an attempt ends: zeroing the work room, and where it is refused the rest behind the used lengths, gives what the definition says.
-use mathlib.Core.Path.{_≡_, refl, sym, ap, _∙_}
+use mathlib.Core.Path.{_≡_, refl, sym, _∙_}
 use mathlib.Core.Bool.{Bool, true, false}
 use mathlib.Core.List.{List}
 use Prim.Native.Nat.{ℕ, _≤_}
@@ -19,13 +19,14 @@ use Rattle.fit.specs.Callees.{calleesOk}
 use Rattle.fit.specs.Keys.{keyedOk}
 use Rattle.judge.specs.Judged.{unfit}
 use Rattle.assign.specs.Walk.{slotsOk}
-use Rattle.compile.specs.declared.Used.{Used}
+use Rattle.lists.specs.declared.Used.{Used}
 use Rattle.compile.specs.declared.Answer.{Answer}
 use Rattle.compile.specs.declared.Answer.the-variants as a
-use Rattle.compile.specs.declared.Tried.{Tried}
-use Rattle.compile.specs.Program.{Buffers, Outcome, answerNumber, globalWords, switchWords, lookupWords, valueWords, lent, outcome}
+use Rattle.lists.specs.declared.Tried.{Tried}
+use Rattle.compile.specs.Program.{Buffers, Outcome, answerNumber, lent, outcome}
+use Rattle.lists.specs.Lists.{globalWords, switchWords, lookupWords, valueWords}
 use Rattle.compile.specs.Compile.{usedOk, roomOk, refusal, doneOf, refusedOf, compiled}
-use Rattle.compile.specs.Attempt.{Finished, Kept, Attempted}
+use Rattle.compile.specs.Attempt.{Attempted}
 
 -- a number of refusal is at most 9
 small : (t : Bool) (x k : ℕ) → x ≤ 9 → k ≤ 9 → pick t x k ≤ 9

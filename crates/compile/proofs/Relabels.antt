@@ -5,7 +5,7 @@ use Prim.Native.Nat.{ℕ, suc, _+_, _-_, _≤_, _<_}
 use native.Mathlib.Numerals.{add-one}
 use native.Mathlib.Omega.{arith}
 use lib.ListN.{length, getD, take, drop, set, length-set, length-append, length-take, length-drop, length-map, take-append-drop}
-use lib.Seq.{take-suc, drop-cons, getD-drop, getD-at, set-at, append-snoc, length-take-le}
+use lib.Seq.{take-suc, drop-cons, getD-drop, getD-at, set-at, append-snoc}
 use Rattle.compile.specs.Compile.{labelsAt}
 
 -- those from `from` to i are pcs already

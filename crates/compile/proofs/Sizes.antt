@@ -1,14 +1,14 @@
 -- Used lengths, rooms and refusals 1 to 7, over plain numbers.
-use mathlib.Core.Path.{_≡_, refl, sym, ap, _∙_}
+use mathlib.Core.Path.{_≡_, refl, sym, _∙_}
 use mathlib.Core.Logic.{⊎-elim}
 use mathlib.Core.Bool.{Bool, true, false, _&&_}
 use mathlib.Core.List.{List}
-use Prim.Native.Nat.{ℕ, _+_, _*_, _-_, _/_, _≤_, _<_, min}
+use Prim.Native.Nat.{ℕ, _+_, _*_, _/_, _≤_, _<_, min}
 use native.Mathlib.Nat.{mul-le-mul, mul-le-mul-left, mul-div-le, div-lt-iff-lt-mul, mul-comm}
 use native.Mathlib.Omega.{arith}
-use borrow.Author.Tests.{lt-ltb, le-ltb, eq-eqb, ne-eqb}
-use lib.Dec.{leb, ltb, eqb}
-use lib.ListN.{length, getD}
+use borrow.Author.Tests.{lt-ltb, le-ltb}
+use lib.Dec.{leb, ltb}
+use lib.ListN.{length}
 use Rattle.base.specs.Choice.{pick}
 use Rattle.base.specs.Limits.{mostOfAKind}
 use Rattle.base.specs.Buffers.{zeroFrom}
@@ -24,10 +24,10 @@ use Rattle.fit.specs.Callees.{calleesOk}
 use Rattle.fit.specs.Keys.{keyedOk}
 use Rattle.judge.specs.Judged.{unfit}
 use Rattle.judge.proofs.Lowest.{bad-word}
-use Rattle.compile.specs.declared.Used.{Used}
+use Rattle.lists.specs.declared.Used.{Used}
 use Rattle.compile.specs.declared.Lengths.{Lengths}
 use Rattle.compile.specs.Program.{Buffers}
-use Rattle.compile.specs.Compile.{usedOk, lastOf}
+use Rattle.compile.specs.Compile.{usedOk}
 use Rattle.compile.specs.Attempt.{Sized}
 
 -- a number that is none of the nine below 9
@@ -62,10 +62,6 @@ slots-over used h = le-ltb used 4294967296 (omega arith)
 pub slots-few : (used : ℕ) → used ≤ 4294967295 → ltb used 4294967296 ≡ true
 slots-few used h = lt-ltb used 4294967296 (omega arith)
 
--- records of few words, of which there are at most so many
-pub product : (words used most : ℕ) → words ≤ 5 → used ≤ most → words * used ≤ 5 * most
-product words used most h k = mul-le-mul h k
-
 -- records of a buffer, and those that pass it
 pub records-in : (words used size : ℕ) → used ≤ size / words → words * used ≤ size
 records-in words used size h =
@@ -80,6 +76,22 @@ records-past words used size h k =
 pub wiped-past : (l : List ℕ) (words used : ℕ) → 1 ≤ words → length l / words < used → l ≡ zeroFrom l (words * used)
 wiped-past l words used h k = sym (zeroFrom-past l (words * used) (records-past words used (length l) h k))
 
+-- a product of two words fits 64 bits
+pub pads-fit : (x y : ℕ) → x < 4294967296 → y < 4294967296 → x * y < 18446744073709551616
+pads-fit x y h k =
+    let a : x ≤ 4294967295 = omega arith in
+    let b : y ≤ 4294967295 = omega arith in
+    let m : x * y ≤ 4294967295 * 4294967295 = mul-le-mul a b in
+    omega arith
+
+-- labels of so many blocks and edges, with no more pads than ops allow
+module _ (x y blocks edges : ℕ) (b : x ≡ blocks) (e : y ≡ edges) where
+  pub labels-few : x * y < 32767 → 2 * x + x * y ≡ 2 * blocks + min (blocks * edges) 32767
+  labels-few h = rw (← b, ← e) (let m : min (x * y) 32767 ≡ x * y = omega arith in rw m)
+
+  pub labels-many : 32767 ≤ x * y → 2 * x + 32767 ≡ 2 * blocks + min (blocks * edges) 32767
+  labels-many h = rw (← b, ← e) (let m : min (x * y) 32767 ≡ 32767 = omega arith in rw m)
+
 -- an entry in the function table: below both bounds is below the lower
 pub under-both : (x : Bool) (k a b : ℕ) → (x && ltb k a && ltb k b) ≡ both x (ltb k (min a b))
 under-both false k a b = refl
@@ -92,20 +104,6 @@ under-both true k a b =
     (lt? k b))
     (λ (p : a ≤ k). rw (le-ltb k a p, le-ltb k (min a b) (omega arith)))
     (lt? k a)
-
--- the words that there is room for
-pub room-most : (words n : ℕ) → mostOfAKind < n → words * mostOfAKind ≡ words * min n mostOfAKind
-room-most words n h = let e : mostOfAKind ≡ min n mostOfAKind = omega arith in ap (λ (m : ℕ). words * m) e
-
-pub room-some : (words n : ℕ) → n ≤ mostOfAKind → words * n ≡ words * min n mostOfAKind
-room-some words n h = let e : n ≡ min n mostOfAKind = omega arith in ap (λ (m : ℕ). words * m) e
-
--- the program's last op
-pub last-none : (ops : List ℕ) (used : ℕ) → used ≡ 0 → 0 ≡ lastOf ops used
-last-none ops used e = rw (eq-eqb used 0 e)
-
-pub last-some : (ops : List ℕ) (used : ℕ) → (used ≡ 0 → ⊥) → getD ops (used - 1) 0 ≡ lastOf ops used
-last-some ops used e = rw (ne-eqb used 0 e)
 
 -- eight tests joined by `&`
 all-eight : (p q r s t u v w : Bool)

@@ -1,18 +1,15 @@
 -- What the steps of compiling know and leave.
 use mathlib.Core.Path.{_≡_}
-use Prim.Native.Nat.{ℕ, _≤_}
+use Prim.Native.Nat.{ℕ}
 use mathlib.Core.List.{List}
-use lib.ListN.{length, take}
-use lib.Seq.{sets}
+use lib.ListN.{length}
 use Rattle.base.specs.Buffers.{zeroFrom}
-use Rattle.input.specs.Layout.{values}
-use Rattle.assign.specs.Walk.{assigned, slotsMade, topUsed}
-use Rattle.compile.specs.declared.Placed.{Placed}
-use Rattle.compile.specs.declared.Used.{Used}
+use Rattle.lists.specs.declared.Used.{Used}
+use Rattle.lists.specs.declared.Tried.{Tried}
+use Rattle.lists.specs.Lists.{globalWords, switchWords, lookupWords, valueWords}
 use Rattle.compile.specs.declared.Lengths.{Lengths}
-use Rattle.compile.specs.declared.Tried.{Tried}
-use Rattle.compile.specs.Program.{Buffers, Outcome, globalWords, switchWords, lookupWords, valueWords}
-use Rattle.compile.specs.Compile.{placesOf, refusal, doneOf}
+use Rattle.compile.specs.Program.{Buffers, Outcome}
+use Rattle.compile.specs.Compile.{refusal, doneOf}
 
 -- the lengths of the buffers
 pub record Sized (n : Lengths) (b : Buffers) : Type 0 where
@@ -26,17 +23,6 @@ pub record Sized (n : Lengths) (b : Buffers) : Type 0 where
   pub lookups : n .lookups ≡ length (b .lookups)
   pub values : n .values ≡ length (b .values)
   pub labels : n .labels ≡ length (b .labels)
-
--- Places given: a word for each value in front of the place buffer, and the registers noted for each.
-pub record Given (n : ℕ) (ws places places′ noted′ : List ℕ) (r : Placed) : Type 0 where
-  pub places-is : places′ ≡ sets places 0 (placesOf n ws)
-  pub places-there : values ws ≤ length places
-  pub noted-is : take (values ws) noted′ ≡ assigned n ws .noted
-  pub noted-there : values ws ≤ length noted′
-  pub slots-is : r .slots ≡ slotsMade n ws
-  pub slots-few : r .slots ≤ 128
-  pub top-is : r .top ≡ topUsed n ws
-  pub top-low : r .top ≤ 64
 
 -- Done, but for the work room: the used lengths and every output buffer.
 pub record Finished (o : Outcome) (u : Used) (b : Buffers) : Type 0 where

@@ -1,7 +1,8 @@
 -- What `compile` is lent, and what it answers.
-use Prim.Native.Nat.{ℕ, _+_, _*_}
+use Prim.Native.Nat.{ℕ}
 use mathlib.Core.List.{List}
-use Rattle.compile.specs.declared.Used.{Used}
+use Rattle.lists.specs.declared.Used.{Used}
+use Rattle.lists.specs.Lists.{Lists, lists}
 use Rattle.compile.specs.declared.Answer.{Answer}
 use Rattle.compile.specs.declared.Answer.the-variants as a
 use Rattle.compile.specs.declared.Compiled.{Compiled}
@@ -47,18 +48,9 @@ pub record Outcome : Type 0 where
   pub used : Used
   pub buffers : Buffers
 
--- how many words of a buffer are used
-abbrev pub globalWords : Used → ℕ
-globalWords u = 2 * u .globals
-
-abbrev pub switchWords : Used → ℕ
-switchWords u = 3 * u .switches
-
-abbrev pub lookupWords : Used → ℕ
-lookupWords u = 5 * u .lookups
-
-abbrev pub valueWords : Used → ℕ
-valueWords u = 2 * u .values
+-- the lists that the functions share
+abbrev pub listsOf : Buffers → Lists
+listsOf b = lists (b .globals) (b .builtins) (b .switches) (b .targets) (b .lookups) (b .values)
 
 -- the lent buffers in order, and what comes back by an answer and the buffers
 abbrev pub lent : List ℕ → List ℕ → List ℕ → List ℕ → List ℕ → List ℕ → List ℕ → List ℕ → List ℕ → List ℕ → List ℕ → List ℕ → List ℕ → Buffers

@@ -1,8 +1,9 @@
 // Compiling one function.
 use judge::Verdict;
+use lists::Used;
 ghost use mathlib.Core.Path.{_≡_};
 ghost use mathlib.Core.Bool.{true, false};
-ghost use Prim.Native.Nat.{ℕ, _+_, _*_, _-_, _/_, _≤_, _<_, min};
+ghost use Prim.Native.Nat.{ℕ, _+_, _*_, _-_, _/_, _≤_, _<_};
 ghost use mathlib.Core.List.{List, _++_};
 ghost use lib.Dec.{leb, ltb, eqb};
 ghost use lib.ListN.{length, getD, take, drop};
@@ -10,11 +11,11 @@ ghost use Rattle.base.specs.Choice.{pick};
 ghost use Rattle.base.specs.Limits.{mostOfAKind};
 ghost use Rattle.base.specs.Buffers.{zeroFrom};
 ghost use Rattle.place.specs.Registers.{registers};
-ghost use Rattle.input.specs.Layout.{functionId};
 ghost use Rattle.input.specs.Forms.{both, wordsOk};
 ghost use Rattle.judge.specs.Judged.{verdictNumber, unfit};
-ghost use Rattle.compile.specs.Program.{Buffers, answerNumber, globalWords, switchWords, lookupWords, valueWords};
-ghost use Rattle.compile.specs.Compile.{usedOk, lastOf, labelsFor, labelsAt, room as roomOf};
+ghost use Rattle.lists.specs.Lists.{globalWords, switchWords, lookupWords, valueWords};
+ghost use Rattle.compile.specs.Program.{Buffers, answerNumber, lent, outcome};
+ghost use Rattle.compile.specs.Compile.{usedOk, labelsFor, entryOk, labelsAt, compiled};
 ghost use Rattle.compile.specs.Attempt.{Sized};
 
 pub enum Answer {
@@ -28,18 +29,6 @@ pub enum Answer {
     BadKey,
     NoSlot,
     NoRoom,
-}
-
-// How much of each buffer is used: ops and spans share one length; globals and lookup values are pairs, a switch table has three words, a lookup
-// table five.
-pub struct Used {
-    pub ops: usize,
-    pub globals: usize,
-    pub builtins: usize,
-    pub switches: usize,
-    pub targets: usize,
-    pub lookups: usize,
-    pub values: usize,
 }
 
 pub struct Compiled {
@@ -106,43 +95,6 @@ fn slots_within(words: usize, used: usize, size: usize) -> bool
     words * used <= size
 }
 
-// How many words of a buffer there is room for, in records of `words` words each.
-fn room(words: usize, size: usize) -> usize
-    requires { ⌜ (1 ≤ words) × (words ≤ 5) ⌝ }
-    ensures { λ r. ⌜ r ≡ words * min (size / words) mostOfAKind ⌝ }
-{
-    let n = size / words;
-    if MOST < n { words * MOST } else { words * n }
-}
-
-// The places of the function's values, and the registers noted at its calls. 0, or the number of the refusal; slots made, and one past the highest
-// general register used.
-struct Placed {
-    number: u8,
-    slots: u8,
-    top: u8,
-}
-
-// The program's last op, 0 where there is none.
-fn last_op(ops: &[u64], used: usize) -> u64
-    ensures { λ r. ⌜ r ≡ lastOf (now (ops .entry)) used ⌝ }
-{
-    if used == 0 {
-        0
-    } else {
-        base::get64(ops, used - 1)
-    }
-}
-
-// How many ops there is room for.
-fn op_room(ops: &[u64], spans: &[u32]) -> usize
-    ensures { λ r. ⌜ r ≡ min (roomOf 1 (now (ops .entry))) (roomOf 1 (now (spans .entry))) ⌝ }
-{
-    let a = room(1, ops.len());
-    let b = room(1, spans.len());
-    if a < b { a } else { b }
-}
-
 // The slots of the new switch tables, which are labels, become pcs.
 fn resolve_targets(targets: &mut [u32], labels: &[u64], from: usize, end: usize)
     requires { ⌜ (from ≤ end) × (end ≤ length (now targets)) × ((t : ℕ) → getD (now labels) t 0 < 4294967296) ⌝ }
@@ -152,6 +104,16 @@ fn resolve_targets(targets: &mut [u32], labels: &[u64], from: usize, end: usize)
     while i < end {
         targets[i] = base::get64(labels, targets[i] as usize) as u32;
         i += 1;
+    }
+}
+
+// The same, unless a number says that the function is refused.
+fn finish_targets(k: u8, targets: &mut [u32], labels: &[u64], from: usize, end: usize)
+    requires { ⌜ (k ≡ 0 → (from ≤ end) × (end ≤ length (now targets)) × ((t : ℕ) → getD (now labels) t 0 < 4294967296)) ⌝ }
+    ensures { λ _. ⌜ (k ≡ 0 → now (targets .exit) ≡ take from (now (targets .entry)) ++ labelsAt (now (labels .entry)) (take (end - from) (drop from (now (targets .entry)))) ++ drop end (now (targets .entry))) × ((k ≡ 0 → ⊥) → now (targets .exit) ≡ now (targets .entry)) ⌝ }
+{
+    if k == 0 {
+        resolve_targets(targets, labels, from, end);
     }
 }
 
@@ -203,19 +165,33 @@ fn labels_for(ws: &[u32]) -> usize
 {
     let blocks = input::head_field(ws, 4) as usize;
     let edges = input::head_field(ws, 6) as usize;
-    if edges < 32767 {
-        return 2 * blocks + edges;
+    let pads = blocks * edges;
+    if pads < 32767 {
+        return 2 * blocks + pads;
     }
     2 * blocks + 32767
 }
 
 // Labels, and an entry in the function table.
 fn enough(ws: &[u32], n: Lengths) -> bool
-    ensures { λ r. ⌜ r ≡ both (leb (labelsFor (now (ws .entry))) (n .labels)) (ltb (functionId (now (ws .entry))) (min (n .functions) mostOfAKind)) ⌝ }
+    ensures { λ r. ⌜ ((b : Buffers) → Sized n b → r ≡ entryOk (now (ws .entry)) b) ⌝ }
 {
     let labels = labels_for(ws);
     let id = input::head_field(ws, 0) as usize;
     (labels <= n.labels) & (id < n.functions) & (id < MOST)
+}
+
+// 9 where they are not enough, unless a number says that the function is refused already.
+fn with_entry(k: u8, ws: &[u32], n: Lengths) -> u8
+    ensures { λ r. ⌜ ((b : Buffers) → Sized n b → r ≡ pick (eqb k 0) (pick (entryOk (now (ws .entry)) b) 0 9) k) ⌝ }
+{
+    if k != 0 {
+        return k;
+    }
+    if enough(ws, n) {
+        return 0;
+    }
+    9
 }
 
 // Zero from so many records of `words` words each on; nothing changes where they pass the buffer.
@@ -260,8 +236,85 @@ fn wipe_tables(
     wipe64(values, 2, u.values);
 }
 
-// The number of the refusal, and the used lengths behind the function.
-struct Tried {
-    number: u8,
+// Any words, any buffers, any used lengths. The places of the values are written to `places`; hints, noted registers and labels are work room.
+pub fn compile(
+    ws: &[u32],
+    functions: &mut [u64],
+    ops: &mut [u64],
+    spans: &mut [u32],
+    globals: &mut [u64],
+    builtins: &mut [u32],
+    switches: &mut [u64],
+    targets: &mut [u32],
+    lookups: &mut [u64],
+    values: &mut [u64],
+    places: &mut [u32],
+    hints: &mut [u32],
+    noted: &mut [u64],
+    labels: &mut [u64],
     used: Used,
+) -> Compiled
+    ensures { λ r. ⌜ outcome r (lent (now (ops .exit)) (now (spans .exit)) (now (globals .exit)) (now (builtins .exit)) (now (functions .exit)) (now (switches .exit)) (now (targets .exit)) (now (lookups .exit)) (now (values .exit)) (now (places .exit)) (now (hints .exit)) (now (noted .exit)) (now (labels .exit))) ≡ compiled registers (now (ws .entry)) (lent (now (ops .entry)) (now (spans .entry)) (now (globals .entry)) (now (builtins .entry)) (now (functions .entry)) (now (switches .entry)) (now (targets .entry)) (now (lookups .entry)) (now (values .entry)) (now (places .entry)) (now (hints .entry)) (now (noted .entry)) (now (labels .entry))) used ⌝ }
+{
+    let n = Lengths {
+        ops: ops.len(),
+        spans: spans.len(),
+        globals: globals.len(),
+        builtins: builtins.len(),
+        functions: functions.len(),
+        switches: switches.len(),
+        targets: targets.len(),
+        lookups: lookups.len(),
+        values: values.len(),
+        labels: labels.len(),
+    };
+    let unfit = early(ws, functions, n, used);
+    let p = placing::place_values(unfit, ws, places, hints, noted);
+    let entered = with_entry(p.number, ws, n);
+    let l = lists::make_lists(
+        entered,
+        ws,
+        places,
+        globals,
+        builtins,
+        switches,
+        targets,
+        lookups,
+        values,
+        used,
+    );
+    let listed = l.used;
+    let f = assemble::put_function(
+        l.number,
+        ws,
+        places,
+        noted,
+        functions,
+        ops,
+        spans,
+        labels,
+        globals,
+        builtins,
+        p,
+        used,
+        listed,
+    );
+    let grown = f.used;
+    finish_targets(f.number, targets, labels, used.targets, grown.targets);
+    base::zero32(hints, 0);
+    base::zero64(noted, 0);
+    base::zero64(labels, 0);
+    if f.number == 0 {
+        return Compiled {
+            answer: Answer::Done,
+            used: grown,
+        };
+    }
+    wipe_lists(ops, spans, globals, builtins, used);
+    wipe_tables(switches, targets, lookups, values, used);
+    base::zero32(places, 0);
+    Compiled {
+        answer: answer_of(f.number),
+        used: used,
+    }
 }

@@ -24,7 +24,7 @@ use Rattle.ready.proofs.Passes.{block-passes}
 use Rattle.ready.proofs.Shaped.{term-shaped}
 
 -- ---- as many arguments as parameters
-list-long : (ws : List ℕ) (at n : ℕ) → length (listAt ws at n) ≡ n
+pub list-long : (ws : List ℕ) (at n : ℕ) → length (listAt ws at n) ≡ n
 unfolding listAt
 list-long ws at zero = refl
 list-long ws at (suc n) = ap suc (list-long ws (at + 1) n)
@@ -46,7 +46,7 @@ term-edges ws b h =
     both-parts (each (edgeShape ws) (firstEdge ws b) (edgeCount ws b)) _ (r .1) .0
 
 -- ---- a use that fits: the value is in use at the row before
-use-fits : (ws : List ℕ) (r v : ℕ) → fitUse ws (defsOf ws) (ref r v) ≡ true → InUse ws v (r - 1)
+pub use-fits : (ws : List ℕ) (r v : ℕ) → fitUse ws (defsOf ws) (ref r v) ≡ true → InUse ws v (r - 1)
 unfolding fitUse
 use-fits ws r v h =
     let p = both-parts (defined v (defsOf ws)) _ h in

@@ -1,3 +1,5 @@
 pub mod Answers
 pub mod Parts
 pub mod Ends
+pub mod Tried
+pub mod Low

@@ -6,7 +6,7 @@ use mathlib.Core.Path.{_≡_, refl, sym, ap, _∙_}
 use native.Mathlib.Omega.{arith}
 use lib.Dec.{leb}
 use lib.ListN.{length, take, drop, replicate, length-replicate}
-use lib.Seq.{sets, length-take-le}
+use lib.Seq.{sets, length-take-le, take-at}
 use borrow.Author.Tests.{leb-true}
 use Rattle.base.proofs.Lists.{sets-front}
 use Rattle.alloc.specs.declared.Alloc.{Alloc}
@@ -65,9 +65,18 @@ module _ (n : ℕ) (ws part wish noted : List ℕ) (s : Alloc) (e : walk s part 
   pub walked-map : part ≡ assigned n ws .map
   walked-map = ap (λ (w : Walk). w .map) e
 
+  walked-masks : noted ≡ assigned n ws .noted
+  walked-masks = ap (λ (w : Walk). w .noted) e
+
   -- the map with its first k words written
   pub walked-front : (map : List ℕ) (k : ℕ) → k ≤ length map → length part ≡ length (take k map)
       → part ++ drop k map ≡ sets map 0 (assigned n ws .map)
   walked-front map k h l =
       let q : length part ≡ k = l ∙ length-take-le k map h in
       ap (λ (j : ℕ). part ++ drop j map) (sym q) ∙ sym (sets-front map part (omega arith)) ∙ ap (sets map 0) walked-map
+
+  -- the noted registers with their first k words written
+  pub walked-noted : (old : List ℕ) (k : ℕ) → k ≡ values ws → k ≤ length old → length noted ≡ length (take k old)
+      → take (values ws) (noted ++ drop k old) ≡ assigned n ws .noted
+  walked-noted old k q h l =
+      take-at noted (drop k old) (values ws) (l ∙ length-take-le k old h ∙ q) ∙ walked-masks

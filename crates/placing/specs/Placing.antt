@@ -1,9 +1,10 @@
 -- Judging a function and giving its places, without compiling it: what the entry answers, and what the lent buffers hold afterwards.
-use Prim.Native.Nat.{ℕ}
+use mathlib.Core.Path.{_≡_}
+use Prim.Native.Nat.{ℕ, _≤_}
 use mathlib.Core.Bool.{Bool}
 use mathlib.Core.List.{List}
 use lib.Dec.{leb, eqb}
-use lib.ListN.{length}
+use lib.ListN.{length, take}
 use lib.Seq.{sets}
 use Rattle.base.specs.Choice.{pick}
 use Rattle.base.specs.Buffers.{zeroFrom}
@@ -12,6 +13,7 @@ use Rattle.input.specs.Forms.{both}
 use Rattle.judge.specs.declared.Verdict.{Verdict}
 use Rattle.judge.specs.Judged.{verdictNumber, unfit}
 use Rattle.assign.specs.Walk.{assigned, slotsMade, topUsed, slotsOk}
+use Rattle.placing.specs.declared.Placed.{Placed}
 use Rattle.placing.specs.declared.Placing.{Placing}
 use Rattle.placing.specs.declared.Placing.the-variants.{Given, Unfit, NoSlot, NoRoom}
 
@@ -88,3 +90,20 @@ outcomeOf n ws functions map hints noted =
       hints = zeroFrom hints 0;
       noted = zeroFrom noted 0;
     })
+
+-- ---- inside the compiler, behind the number k of a refusal so far, 0 for none, with which nothing is done
+
+-- places given: a word for each value in front of the place buffer, and the registers noted for each
+pub record PlacesGiven (n : ℕ) (ws places places′ noted′ : List ℕ) (r : Placed) : Type 0 where
+  pub places-is : places′ ≡ sets places 0 (assigned n ws .map)
+  pub places-there : values ws ≤ length places
+  pub noted-is : take (values ws) noted′ ≡ assigned n ws .noted
+  pub noted-there : values ws ≤ length noted′
+  pub slots-is : r .slots ≡ slotsMade n ws
+  pub slots-few : r .slots ≤ 128
+  pub top-is : r .top ≡ topUsed n ws
+  pub top-low : r .top ≤ 64
+
+pub record PlacesTried (n k : ℕ) (ws places hints noted places′ noted′ : List ℕ) (r : Placed) : Type 0 where
+  pub number-is : r .number ≡ pick (eqb k 0) (pick (slotsOk n ws) (pick (roomOk ws places hints noted) 0 9) 8) k
+  pub given : r .number ≡ 0 → PlacesGiven n ws places places′ noted′ r

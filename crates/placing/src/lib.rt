@@ -6,14 +6,17 @@ ghost use mathlib.Core.Bool.{true};
 ghost use mathlib.Core.List.{List};
 ghost use Prim.Native.Nat.{ℕ};
 ghost use lib.Dec.{eqb};
+ghost use lib.ListN.{take};
 ghost use lib.Seq.{sets};
 ghost use Rattle.base.specs.Buffers.{zeroFrom};
 ghost use Rattle.place.specs.Registers.{registers};
+ghost use Rattle.alloc.specs.Good.{Good};
+ghost use Rattle.input.specs.Layout.{values};
 ghost use Rattle.judge.specs.Judged.{verdictNumber, unfit};
 ghost use Rattle.assign.specs.Walk.{assigned, slotsOk};
 ghost use Rattle.assign.specs.Fits.{Fits, Lent};
 ghost use Rattle.ready.specs.Ready.{Ready};
-ghost use Rattle.placing.specs.Placing.{roomOk, outcome, outcomeOf};
+ghost use Rattle.placing.specs.Placing.{roomOk, outcome, outcomeOf, PlacesTried};
 
 pub enum Placing {
     // slots made, and one past the highest general register used
@@ -31,11 +34,11 @@ fn room_ok(ws: &[u32], map: &[u32], hints: &[u32], noted: &[u64]) -> bool
     (n <= map.len()) & (n <= hints.len()) & (n <= noted.len())
 }
 
-// The places go into the first words of the map.
+// The places go into the first words of the map, and what is noted into those of the noted registers.
 fn give(ws: &[u32], map: &mut [u32], hints: &mut [u32], noted: &mut [u64]) -> Alloc
     requires { ⌜ Ready (now ws) ⌝ }
     requires { ⌜ roomOk (now ws) (now map) (now hints) (now noted) ≡ true ⌝ }
-    ensures { λ s. ⌜ (s ≡ assigned registers (now (ws .entry)) .alloc) × (now (map .exit) ≡ sets (now (map .entry)) 0 (assigned registers (now (ws .entry)) .map)) ⌝ }
+    ensures { λ s. ⌜ (s ≡ assigned registers (now (ws .entry)) .alloc) × (now (map .exit) ≡ sets (now (map .entry)) 0 (assigned registers (now (ws .entry)) .map)) × (take (values (now (ws .entry))) (now (noted .exit)) ≡ assigned registers (now (ws .entry)) .noted) × Good s ⌝ }
 {
     let n = input::head_field(ws, 3) as usize;
     assign::give_places(ws, &mut map[..n], &mut hints[..n], &mut noted[..n])
@@ -121,4 +124,52 @@ pub fn places(
     base::zero32(hints, 0);
     base::zero64(noted, 0);
     r
+}
+
+// The number of the refusal, 0 for none; slots made, and one past the highest general register used.
+pub struct Placed {
+    pub number: u8,
+    pub slots: u8,
+    pub top: u8,
+}
+
+// No places.
+fn refused(number: u8) -> Placed
+    ensures { λ r. ⌜ r .number ≡ number ⌝ }
+{
+    Placed {
+        number: number,
+        slots: 0,
+        top: 0,
+    }
+}
+
+// The places of a function's values, unless a number says that it is refused.
+pub fn place_values(
+    k: u8,
+    ws: &[u32],
+    places: &mut [u32],
+    hints: &mut [u32],
+    noted: &mut [u64],
+) -> Placed
+    requires { ⌜ (k ≡ 0 → Ready (now ws)) ⌝ }
+    ensures { λ r. ⌜ PlacesTried registers k (now (ws .entry)) (now (places .entry)) (now (hints .entry)) (now (noted .entry)) (now (places .exit)) (now (noted .exit)) r ⌝ }
+{
+    if k != 0 {
+        return refused(k);
+    }
+    let enough = all_fit(ws);
+    let wide = room_ok(ws, places, hints, noted);
+    if !enough {
+        return refused(8);
+    }
+    if !wide {
+        return refused(9);
+    }
+    let s = give(ws, places, hints, noted);
+    Placed {
+        number: 0,
+        slots: s.made as u8,
+        top: assign::top_used(s),
+    }
 }

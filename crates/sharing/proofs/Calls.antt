@@ -95,7 +95,7 @@ note-run : (ws pool : List ℕ) (r v : ℕ) (ss : List Step) (w : Walk) → run 
 unfolding run step
 note-run ws pool r v ss w = refl
 
-call-run : (ws pool : List ℕ) (r i v : ℕ) (ys : List Row) (w : Walk) → isCall ws i ≡ true → destination ws i ≡ suc v
+pub call-run : (ws pool : List ℕ) (r i v : ℕ) (ys : List Row) (w : Walk) → isCall ws i ≡ true → destination ws i ≡ suc v
     → run ws pool (overRows (rowSteps ws) r (instr i ∷ ys)) w
     ≡ run ws pool (overRows (rowSteps ws) (r + 1) ys) (run ws pool (places r (definedBy ws i)) (noteStep r v w))
 call-run ws pool r i v ys w c d =
@@ -142,26 +142,26 @@ module _ (n : ℕ) (ws : List ℕ) (o : onceOk ws ≡ true) (all : slotsOk n ws 
   abbrev here : Walk
   here = run ws pool (overRows (rowSteps ws) 0 xs) (begin n ws)
 
-  split : defsOf ws ≡ done ++ rest
+  pub split : defsOf ws ≡ done ++ rest
   split = ap (overRows (rowDefs ws) 0) at ∙ over-append (rowDefs ws) 0 xs (instr i ∷ ys)
 
-  once-all : once (done ++ rest) ≡ true
+  pub once-all : once (done ++ rest) ≡ true
   once-all = subst (λ (l : List Ref). once l ≡ true) split o
 
-  safe-here : Safe n ws row done here
+  pub safe-here : Safe n ws row done here
   safe-here = rows-go n ws 0 xs [] (begin n ws) (begin-safe n ws) (once-left done rest once-all) .safe
 
   steps-split : stepsOf ws ≡ overRows (rowSteps ws) 0 xs ++ overRows (rowSteps ws) row (instr i ∷ ys)
   steps-split = ap (overRows (rowSteps ws) 0) at ∙ over-append (rowSteps ws) 0 xs (instr i ∷ ys)
 
-  all-run : assigned n ws ≡ run ws pool (overRows (rowSteps ws) row (instr i ∷ ys)) here
+  pub all-run : assigned n ws ≡ run ws pool (overRows (rowSteps ws) row (instr i ∷ ys)) here
   unfolding assigned
   all-run = ap (λ (ss : List Step). run ws pool ss (begin n ws)) steps-split ∙ run-append ws pool (overRows (rowSteps ws) 0 xs) _ (begin n ws)
 
-  keeps : (q u : ℕ) → Did q u done → placeWord n ws u ≡ word here u
+  pub keeps : (q u : ℕ) → Did q u done → placeWord n ws u ≡ word here u
   keeps q u d = ap (λ (w : Walk). word w u) all-run ∙ rows-go n ws row (instr i ∷ ys) done here safe-here once-all .stays q u d
 
-  noted-is : getD (assigned n ws .noted) v 0 ≡ liveAfter 0 row (live (here .alloc)) 0
+  pub noted-is : getD (assigned n ws .noted) v 0 ≡ liveAfter 0 row (live (here .alloc)) 0
   noted-is =
       let len : length (here .noted) ≡ values ws = rows-noted ws pool 0 xs (begin n ws) (values ws) (begin-noted n ws) in
       ap (λ (w : Walk). getD (w .noted) v 0) all-run
@@ -189,7 +189,7 @@ module _ (n : ℕ) (ws : List ℕ) (o : onceOk ws ≡ true) (all : slotsOk n ws 
       (λ q. owned k (safe-here .owner row (omega arith) (Register (Gpr k)) q))
       (live-only k row (live (here .alloc)) 0 (rw noted-is at h))
 
-  before-did : (u : ℕ) → InUse ws u row → rowIn u (defsOf ws) < row → Did (rowIn u (defsOf ws)) u done
+  pub before-did : (u : ℕ) → InUse ws u row → rowIn u (defsOf ws) < row → Did (rowIn u (defsOf ws)) u done
   before-did u used l =
       ⊎-elim (λ d. d) (λ d. absurd (omega (arith, rows-after ws (rowIn u (defsOf ws)) u row (instr i ∷ ys) d)))
       (List·Memᴰ·append-cases done (subst (Did (rowIn u (defsOf ws)) u) split (did-at u (defsOf ws) (used .is))))
@@ -213,10 +213,10 @@ module _ (n : ℕ) (ws : List ℕ) (g : Given n ws) (i r : ℕ) (at : RowIs ws r
   abbrev after : List Row
   after = drop (suc r) (rowsOf ws)
 
-  there : rowsOf ws ≡ before ++ instr i ∷ after
+  pub there : rowsOf ws ≡ before ++ instr i ∷ after
   there = split-at (rowsOf ws) r (instr i) (at .within) ∙ ap (λ (x : Row). before ++ x ∷ after) (at .is)
 
-  number : 0 + length before ≡ r
+  pub number : 0 + length before ≡ r
   number = omega (arith, length-take-le r (rowsOf ws) (omega (arith, at .within)))
 
   -- the row's instruction is there, so it has a destination
@@ -228,7 +228,7 @@ module _ (n : ℕ) (ws : List ℕ) (g : Given n ws) (i r : ℕ) (at : RowIs ws r
       has-destination ws i (words-instr ws (g .words) i low) c
 
   module _ (v : ℕ) (dst : destination ws i ≡ suc v) where
-    value-there : v < values ws
+    pub value-there : v < values ws
     value-there =
         destination-there ws i v
         (every-at (rowShape ws) 0 before (instr i) after (subst (λ (rs : List Row). every (rowShape ws) 0 rs ≡ true) there (rows-ok ws (g .shape))))

@@ -68,14 +68,14 @@ unfolding enter
 enter-made end before s (got.At p) h = h
 enter-made end before s got.NoSlot h = omega arith
 
-new-made : (class at end : ℕ) (h : Hint) (pool : List ℕ) (s : Alloc) → s .made ≤ newPlace class at end h pool s .state .made
+pub new-made : (class at end : ℕ) (h : Hint) (pool : List ℕ) (s : Alloc) → s .made ≤ newPlace class at end h pool s .state .made
 unfolding newPlace
 new-made class at end h pool s =
     let x : Alloc = expireOf at s in
     let t : Taken = takeOf class h pool x in
     enter-made end s (t .state) (t .got) (omega (arith, take-made class h pool x, expire-made at s))
 
-pin-made : (r : Reg) (end : ℕ) (s : Alloc) → s .made ≤ pinOf r end s .made
+pub pin-made : (r : Reg) (end : ℕ) (s : Alloc) → s .made ≤ pinOf r end s .made
 unfolding pinOf
 pin-made r end s = pick-both (λ (t : Alloc). s .made ≤ t .made) (isFree r s) _ _ (omega (arith, reg-made r s)) (omega arith)
 

@@ -174,7 +174,7 @@ module _ (n : ℕ) (ws : List ℕ) where
   quiet-goes : (r : ℕ) (done : List Ref) (w w′ : Walk) → Safe n ws r done w → Quiet w w′ → Goes n ws r done [] w w′
   quiet-goes r done w w′ s e = goes-nowhere r done w w′ (unmoved r done w w′ s e) (e .map)
 
-  note-quiet : (r v : ℕ) (w : Walk) → Quiet w (noteStep r v w)
+  pub note-quiet : (r v : ℕ) (w : Walk) → Quiet w (noteStep r v w)
   unfolding noteStep
   note-quiet r v w = record { alloc = refl; map = refl }
 

@@ -62,12 +62,12 @@ later n ws clock clock′ done w l s =
     }
 
 -- ---- words of places
-housed-place : (n made : ℕ) (p : Place) → Known made p → ((q : Reg) → p ≡ Register q → OfPool n q) → Housed n made (wordOf (found.At p))
+pub housed-place : (n made : ℕ) (p : Place) → Known made p → ((q : Reg) → p ≡ Register q → OfPool n q) → Housed n made (wordOf (found.At p))
 housed-place n made (Slot k) h f = let e : 257 + k ≡ 1 + (256 + k) = omega arith in subst (Housed n made) e (in-slot k h)
 housed-place n made (Register (Gpr r)) h f = in-register r (f (Gpr r) refl)
 housed-place n made (Register (Fpr r)) h f = absurd (f (Fpr r) refl)
 
-housed-more : (n a b x : ℕ) → a ≤ b → Housed n a x → Housed n b x
+pub housed-more : (n a b x : ℕ) → a ≤ b → Housed n a x → Housed n b x
 housed-more n a b x l (in-register r h) = in-register r h
 housed-more n a b x l (in-slot k h) = in-slot k (omega arith)
 

@@ -27,7 +27,7 @@ has-each map (x ∷ ds) r v e d z =
     eqb-false (getD map (x .value) 0) 0 (not-head (eqb (getD map (x .value) 0) 0) (allPlaced map ds) e) z′)
     (λ k. has-each map ds r v (not-tail (eqb (getD map (x .value) 0) 0) (allPlaced map ds) e) k z) (List·Memᴰ·cases-cons d)
 
-held : (n : ℕ) (ws : List ℕ) (x : ℕ) → slotsMade n ws ≤ 128 → Housed n (slotsMade n ws) x → Held n ws x
+pub held : (n : ℕ) (ws : List ℕ) (x : ℕ) → slotsMade n ws ≤ 128 → Housed n (slotsMade n ws) x → Held n ws x
 held n ws x l (in-register r h) = inRegister r (lt-ltb r (n - 2) h)
 held n ws x l (in-slot k h) = inSlot k h l
 

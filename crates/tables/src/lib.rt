@@ -13,7 +13,7 @@ ghost use Rattle.input.specs.Records.{isLive, firstInstr, instrCount, instrKind
 ghost use Rattle.input.specs.Forms.{both};
 ghost use Rattle.rows.specs.Rows.{instr, term, instrRows, blockRows, rowsOf, overRows};
 ghost use Rattle.fit.specs.Keys.{keysAt, ranked, smallest};
-ghost use Rattle.ready.specs.Ready.{Ready, KeysReady};
+ghost use Rattle.ready.specs.Ready.{Live, Ready, KeysReady};
 ghost use Rattle.lower.specs.Instructions.{isGlobal};
 ghost use Rattle.edges.specs.Edges.{hasMoves, padCount};
 ghost use Rattle.tables.specs.Interning.{globalOf, intern, internAll, isString, rowConstants, stringsInterned, rowLoaded, globalsAfter, builtinOf, internBuiltin, internBuiltins, rowBuiltins, builtinsAfter};
@@ -211,7 +211,7 @@ fn intern_block(ws: &[u32], globals: &mut [u64], e: End, strings: bool, b: u32) 
 
 // Those of all blocks.
 fn intern_pass(ws: &[u32], globals: &mut [u64], e: End, strings: bool) -> End
-    requires { ⌜ Ready (now ws) ⌝ }
+    requires { ⌜ ((b : ℕ) → Live (now ws) b → firstInstr (now ws) b + instrCount (now ws) b < 4294967296) ⌝ }
     ensures { λ r. ⌜ Grows (internAll (pick strings isString isGlobal) (now (ws .entry)) (overRows (pick strings rowConstants rowLoaded (now (ws .entry))) 0 (rowsOf (now (ws .entry))))) (now (globals .entry)) e (now (globals .exit)) r ⌝ }
 {
     let end = input::head_field(ws, 4);
@@ -226,7 +226,7 @@ fn intern_pass(ws: &[u32], globals: &mut [u64], e: End, strings: bool) -> End
 
 // The function's strings among the globals.
 pub fn intern_strings(ws: &[u32], globals: &mut [u64], e: End) -> End
-    requires { ⌜ Ready (now ws) ⌝ }
+    requires { ⌜ ((b : ℕ) → Live (now ws) b → firstInstr (now ws) b + instrCount (now ws) b < 4294967296) ⌝ }
     ensures { λ r. ⌜ Grows (stringsInterned (now (ws .entry))) (now (globals .entry)) e (now (globals .exit)) r ⌝ }
 {
     intern_pass(ws, globals, e, true)

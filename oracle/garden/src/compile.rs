@@ -224,3 +224,15 @@ pub fn compact(mut cc: Cc, ids: usize) -> (Code, Code) {
     cc.compact_nops();
     (before, code(&cc, ids))
 }
+
+/// The time that the commit's `compile` takes for the whole list, once around, and how many ops it makes. What it is fed is made before.
+pub fn time(program: &Program, rounds: u32) -> (std::time::Duration, usize) {
+    let builtins = convert::builtins(&program.functions);
+    let functions: Vec<Func> = program.functions.iter().map(|f| convert::func(f, &builtins)).collect();
+    let mut ops = 0;
+    let start = std::time::Instant::now();
+    for _ in 0..rounds {
+        ops = whole(program, &functions).buf.len();
+    }
+    (start.elapsed() / rounds, ops)
+}

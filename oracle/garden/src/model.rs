@@ -123,7 +123,15 @@ impl Function {
 
     /// The words of docs/INPUT.md.
     pub fn to_words(&self) -> Vec<u32> {
-        let mut tables = Tables::default();
+        self.words_by(Tables::default())
+    }
+
+    /// The same function, but that equal lists, and equal runs of edges and constants, stand in their tables once.
+    pub fn to_shared_words(&self) -> Vec<u32> {
+        self.words_by(Tables { shared: true, ..Tables::default() })
+    }
+
+    fn words_by(&self, mut tables: Tables) -> Vec<u32> {
         for value in &self.values {
             tables.values.extend([value.start, value.end, value.hint.map_or(0, |r| r as u32 + 1)]);
         }
@@ -151,21 +159,30 @@ struct Tables {
     edges: Vec<u32>,
     constants: Vec<u32>,
     pool: Vec<u32>,
+    /// What stands in a table already is not put there again.
+    shared: bool,
+}
+
+/// The record of a table at which the words stand, records of `width` words; they are put at its end where they don't stand yet, or are not
+/// to be shared.
+fn put(table: &mut Vec<u32>, words: &[u32], width: usize, shared: bool) -> u32 {
+    let there = |k: &usize| table[k * width..].starts_with(words);
+    if let Some(k) = (0..table.len() / width).filter(|_| shared).find(there) {
+        return k as u32;
+    }
+    table.extend(words);
+    ((table.len() - words.len()) / width) as u32
 }
 
 impl Tables {
     fn list(&mut self, values: &[u32]) -> [u32; 2] {
-        let at = self.pool.len() as u32;
-        self.pool.extend(values);
-        [at, values.len() as u32]
+        [put(&mut self.pool, values, 1, self.shared), values.len() as u32]
     }
 
     fn constants(&mut self, all: impl IntoIterator<Item = Constant>) -> u32 {
-        let first = self.constants.len() as u32 / 3;
-        for (kind, payload) in all.into_iter().map(Constant::held) {
-            self.constants.extend([kind, payload as u32, (payload >> 32) as u32]);
-        }
-        first
+        let held = all.into_iter().map(Constant::held);
+        let words: Vec<u32> = held.flat_map(|(kind, payload)| [kind, payload as u32, (payload >> 32) as u32]).collect();
+        put(&mut self.constants, &words, 3, self.shared)
     }
 
     fn block(&mut self, block: &Block) {
@@ -192,11 +209,13 @@ impl Tables {
         };
         record.extend([kind, term.span]);
         record.extend(self.list(&term.operands));
-        record.extend([self.edges.len() as u32 / 3, term.edges.len() as u32, x, y]);
+        // the lists of arguments stand behind the operands, edge by edge
+        let mut edges = vec![];
         for edge in &term.edges {
             let [at, count] = self.list(&edge.args);
-            self.edges.extend([edge.to, at, count]);
+            edges.extend([edge.to, at, count]);
         }
+        record.extend([put(&mut self.edges, &edges, 3, self.shared), term.edges.len() as u32, x, y]);
     }
 
     fn instr(&mut self, instr: &Instr) {

@@ -1,28 +1,37 @@
-//! Programs, function by function, and all that the Rust's lowering makes of them. Nothing is compacted.
+//! Programs, function by function, and all that the Rust's lowering makes of them. Nothing is compacted. Each list stands as `compile` holds it
+//! in its buffer.
 //!
-//! A wide word is two words, low half first. A constant is its kind (docs/INPUT.md) and its payload, a wide word: three words.
+//! A wide word is two words, low half first.
 //!
-//! File: the number of programs. Each program:
+//! File: the number of programs. Each program: the number of its words, and these:
 //! - 1 if the strings of its used functions are interned before the first is compiled, in one call for the list; else 0
 //! - how many strings that call interned, 0 without it: they are the first globals below
-//! - the number of words of the function table, those words at the start (wide)
-//! - the number of functions; each: the number of its input words, those words; and unless it is marked unused (word 2), which is not compiled:
-//!   - the number that comes back, 0 or 8
-//!   - if it is 0: the slots made, the number of values, the map word of each (0 for no place, 1 + r for register r, 257 + k for slot k)
-//!   - how many ops, globals, builtins, switch tables and lookup tables the program has afterwards: five words, unchanged after 8
-//! - the function table at the end (wide), as long as at the start
-//! - the number of ops, the ops (wide), then their spans
-//! - the number of globals, a constant each; the number of builtins, a word each
-//! - the number of switch tables; each: its first key (wide), how many entries, the entries
-//! - the number of lookup tables; each: its first key (wide), how many values, the values, a constant each, and its default, a constant
+//! - 1 if each function is to be compiled again in exactly enough room and in too little; else 0
+//! - how many words the function table has, how many functions there are
+//! - the words, counted from the first of these, at which each of the following starts
+//! - the function table at the start; the function table at the end (wide)
+//! - the ops (wide); their spans; kind and payload of each global (wide); the builtins
+//! - of each switch table its first key, where its slots start, how many it has (wide); the slots
+//! - of each lookup table its first key, where its values start, how many it has, kind and payload of its default (wide); kind and payload of
+//!   each value (wide)
+//! - the functions, each:
+//!   - the number of its input words; how many words of the function table it and its callees take; the number that comes back, 0 or 8; how
+//!     many map words follow, after 8 none
+//!   - how many ops, globals, builtins, switch tables, slots, lookup tables and values the program has afterwards, unchanged after 8
+//!   - the input words; the map words (0 for no place, 1 + r for register r, 257 + k for slot k)
+//!
+//! A function that is marked unused (word 2) is not compiled: it has 0, no map words, and the counts as they were.
 use crate::hand::*;
 use garden::REGISTER_COUNT;
 use garden::compile::{Compiled, Used, compile};
-use garden::model::{Block, Constant, Does, Function, Held, Program};
+use garden::model::{Block, Constant, Does, Ends, Function, Held, Program};
 use garden::random::{Style, program};
 use garden::rng::Random;
 
 const SEED: u64 = 0x4f08286203;
+
+/// Is each function compiled again in exactly enough room and in too little?
+const TRIED: bool = true;
 
 /// The most arguments.
 const MOST: u32 = REGISTER_COUNT as u32 - 2;
@@ -227,61 +236,120 @@ fn random(k: u64) -> Program {
     })
 }
 
-fn wide(out: &mut Vec<u32>, words: &[u64]) {
-    out.extend(words.iter().flat_map(|&w| [w as u32, (w >> 32) as u32]));
+/// How much there is of each kind, with the slots of switch tables and the values of lookup tables.
+fn counts(done: &Compiled, used: &Used) -> [u32; 7] {
+    let Used { ops, globals, builtins, switches, lookups } = *used;
+    let slots: usize = done.code.switches[..switches as usize].iter().map(|t| t.targets.len()).sum();
+    let values: usize = done.lookups[..lookups as usize].iter().map(|t| t.values.len()).sum();
+    [ops, globals, builtins, switches, slots as u32, lookups, values as u32]
 }
 
-fn constants(out: &mut Vec<u32>, all: &[Held]) {
-    out.extend(all.iter().flat_map(|&(kind, payload)| [kind, payload as u32, (payload >> 32) as u32]));
+/// Before the first function: the strings, if they come first.
+fn at_first(done: &Compiled) -> Used {
+    Used { globals: done.strings, ..Used::default() }
 }
 
-fn write_functions(out: &mut Vec<u32>, program: &Program, done: &Compiled) {
-    out.push(program.functions.len() as u32);
+/// How many words of the function table have to be there: its own entry and those of its callees.
+fn table_words(f: &Function) -> u32 {
+    let instrs = f.blocks.iter().flat_map(|b| &b.instrs).filter_map(|i| match i.does {
+        Does::Call { function } => Some(function),
+        _ => None,
+    });
+    let tails = f.blocks.iter().filter_map(|b| match b.term.as_ref()?.ends {
+        Ends::Tail { function } => Some(function),
+        _ => None,
+    });
+    1 + instrs.chain(tails).fold(f.id, u32::max)
+}
+
+/// How many of the thirteen buffers may be one short: those that the function adds to, and the function table where no callee is past its end.
+fn shorts(f: &Function, before: [u32; 7], after: [u32; 7]) -> usize {
+    let grown = before.iter().zip(after).filter(|(b, a)| *b < a).count();
+    let spans = (before[0] < after[0]) as usize;
+    let values = if f.values.is_empty() { 0 } else { 3 };
+    let labels = 1;
+    let table = (table_words(f) == f.id + 1) as usize;
+    grown + spans + values + labels + table
+}
+
+fn wide(words: &[u64]) -> Vec<u32> {
+    words.iter().flat_map(|&w| [w as u32, (w >> 32) as u32]).collect()
+}
+
+fn constants(all: &[Held]) -> Vec<u32> {
+    all.iter().flat_map(|&(kind, payload)| wide(&[kind as u64, payload])).collect()
+}
+
+fn switch_tables(done: &Compiled) -> [Vec<u32>; 2] {
+    let (mut heads, mut slots) = (vec![], vec![]);
+    for table in &done.code.switches {
+        heads.extend(wide(&[table.first, slots.len() as u64, table.targets.len() as u64]));
+        slots.extend(&table.targets);
+    }
+    [heads, slots]
+}
+
+fn lookup_tables(done: &Compiled) -> [Vec<u32>; 2] {
+    let (mut heads, mut values) = (vec![], vec![]);
+    for table in &done.lookups {
+        let (kind, payload) = table.default;
+        heads.extend(wide(&[table.first, values.len() as u64, table.values.len() as u64, kind as u64, payload]));
+        values.extend(&table.values);
+    }
+    [heads, constants(&values)]
+}
+
+fn functions(program: &Program, done: &Compiled) -> Vec<u32> {
+    let mut out = vec![];
     for (f, (placed, used)) in program.functions.iter().zip(&done.each) {
         let words = f.to_words();
-        out.push(words.len() as u32);
+        out.extend([words.len() as u32, table_words(f), placed.number, placed.places.len() as u32]);
+        out.extend(counts(done, used));
         out.extend(words);
-        if f.unused {
-            continue;
-        }
-        out.push(placed.number);
-        if placed.number == 0 {
-            out.extend([placed.slots, placed.places.len() as u32]);
-            out.extend(&placed.places);
-        }
-        let Used { ops, globals, builtins, switches, lookups } = *used;
-        out.extend([ops, globals, builtins, switches, lookups]);
+        out.extend(&placed.places);
     }
+    out
 }
 
-fn write(out: &mut Vec<u32>, program: &Program, done: &Compiled) {
-    out.extend([program.strings_first as u32, done.strings, program.table.len() as u32]);
-    wide(out, &program.table);
-    write_functions(out, program, done);
-    wide(out, &done.code.functions);
-    out.push(done.code.ops.len() as u32);
-    wide(out, &done.code.ops);
-    out.extend(&done.code.spans);
-    out.push(done.globals.len() as u32);
-    constants(out, &done.globals);
-    out.push(done.builtins.len() as u32);
-    out.extend(&done.builtins);
-    write_tables(out, done);
+fn words_of(program: &Program, done: &Compiled) -> Vec<u32> {
+    let ([switches, slots], [lookups, values]) = (switch_tables(done), lookup_tables(done));
+    let (ops, spans) = (wide(&done.code.ops), done.code.spans.clone());
+    let (globals, builtins) = (constants(&done.globals), done.builtins.clone());
+    let [first, last] = [&program.table, &done.code.functions].map(|table| wide(table));
+    let parts = [first, last, ops, spans, globals, builtins, switches, slots, lookups, values, functions(program, done)];
+    let (tables, all) = (program.table.len() as u32, program.functions.len() as u32);
+    let mut out = vec![program.strings_first as u32, done.strings, TRIED as u32, tables, all];
+    let mut at = out.len() + parts.len();
+    for part in &parts {
+        out.push(at as u32);
+        at += part.len();
+    }
+    out.extend(parts.concat());
+    out
 }
 
-fn write_tables(out: &mut Vec<u32>, done: &Compiled) {
-    out.push(done.code.switches.len() as u32);
-    for table in &done.code.switches {
-        wide(out, &[table.first]);
-        out.push(table.targets.len() as u32);
-        out.extend(&table.targets);
-    }
-    out.push(done.lookups.len() as u32);
-    for table in &done.lookups {
-        wide(out, &[table.first]);
-        out.push(table.values.len() as u32);
-        constants(out, &table.values);
-        constants(out, &[table.default]);
+/// What a replay has to count: functions compiled, ops, calls in exactly enough room, calls in one word less.
+#[derive(Default)]
+struct Count {
+    functions: usize,
+    ops: usize,
+    exact: usize,
+    short: usize,
+}
+
+impl Count {
+    fn add(&mut self, program: &Program, done: &Compiled) {
+        let mut before = counts(done, &at_first(done));
+        for (f, (placed, used)) in program.functions.iter().zip(&done.each).filter(|(f, _)| !f.unused) {
+            let after = counts(done, used);
+            self.functions += 1;
+            self.exact += TRIED as usize;
+            if TRIED && placed.number == 0 {
+                self.short += shorts(f, before, after);
+            }
+            before = after;
+        }
+        self.ops += done.code.ops.len();
     }
 }
 
@@ -289,12 +357,18 @@ pub fn vectors() -> (Vec<u32>, String) {
     let mut all = [examples(), tails(), [3, 20, 40].map(calls).to_vec(), roots(), loops(), tables(), others()].concat();
     all.iter().flat_map(|p| &p.functions).for_each(admitted);
     all.extend((0..120).map(random));
-    let (mut out, mut functions, mut ops) = (vec![all.len() as u32], 0, 0);
+    let (mut out, mut count) = (vec![all.len() as u32], Count::default());
     for program in &all {
         let done = compile(program);
-        functions += program.functions.len();
-        ops += done.code.ops.len();
-        write(&mut out, program, &done);
+        let words = words_of(program, &done);
+        count.add(program, &done);
+        out.push(words.len() as u32);
+        out.extend(words);
     }
-    (out, format!("{} programs, {functions} functions, {ops} ops, 0 differ", all.len()))
+    let Count { functions, ops, exact, short } = count;
+    let lines = [
+        format!("{} programs, {functions} functions, {ops} ops, 0 differ", all.len()),
+        format!("{exact} calls in exactly enough room, {short} in one word less, 0 differ"),
+    ];
+    (out, lines.join("\n"))
 }

@@ -1,6 +1,6 @@
 -- The definition looks at the same field.
 use borrow.Author.Needs.{needs}
-use Rattle.body.proofs.Chosen.{ends-ret, ends-tail}
+use Rattle.body.proofs.Ends.{ends-ret, ends-tail}
 use Rattle.body.proofs.ends_flow.Statement.{statement}
 use Rattle.body.proofs.ends_flow.Tie as tie
 

@@ -7,7 +7,8 @@ use lib.ListN.{length, take}
 use Rattle.base.proofs.Pens.{lowers-none, Left, left-as, left-turn, left-end}
 use Rattle.place.specs.Registers.{registers}
 use Rattle.input.specs.Layout.{blocks}
-use Rattle.body.specs.Body.{seen, blocksOps}
+use Rattle.instrs.specs.Instrs.{seen}
+use Rattle.body.specs.Body.{blocksOps}
 use Rattle.body.proofs.Blocks.{is-live, blocks-live, blocks-dead, blocks-first, blocks-none, instrs-few, Tallied, tallied-dead, tallied-live}
 use Rattle.body.proofs.put_blocks.Statement.{statement}
 use Rattle.body.proofs.put_blocks.Tie as tie

@@ -1,6 +1,6 @@
 -- One law each for Return of nothing and of a value.
 use borrow.Author.Needs.{needs}
-use Rattle.body.proofs.Chosen.{return-none, return-some}
+use Rattle.body.proofs.Ends.{return-none, return-some}
 use Rattle.body.proofs.put_return.Statement.{statement}
 use Rattle.body.proofs.put_return.Tie as tie
 

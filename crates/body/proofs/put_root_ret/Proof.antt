@@ -1,7 +1,7 @@
 -- One law each for another function, a root that ends in Ret or Tail, and one that does not.
 use mathlib.Core.Path.{sym, _∙_}
 use borrow.Author.Needs.{needs}
-use Rattle.body.proofs.Chosen.{root-other, root-ends, root-ret}
+use Rattle.body.proofs.Ends.{root-other, root-ends, root-ret}
 use Rattle.body.proofs.put_root_ret.Statement.{statement}
 use Rattle.body.proofs.put_root_ret.Tie as tie
 

@@ -1,6 +1,6 @@
 -- The place of a value that the pool lists.
 use borrow.Author.Needs.{needs}
-use Rattle.body.proofs.Places.{place-listed}
+use Rattle.instrs.proofs.Places.{place-listed}
 use Rattle.body.proofs.term_place.Statement.{statement}
 use Rattle.body.proofs.term_place.Tie as tie
 

@@ -1,47 +1,36 @@
+-- Each number up to 9 has its answer; the last arm is 9.
 use Rattle.compile.proofs.Sizes.{nine}
 use borrow.Author.Needs.{needs}
 use Rattle.compile.proofs.answer_of.Statement.{statement}
 use Rattle.compile.proofs.answer_of.Tie as tie
-use Rattle.compile.proofs.answer_of.Reads as reads
-use Rattle.compile.proofs.answer_of.Lts as lts
 
--- src/lib.rt:68:1
 returns : tie.Need-returns
 returns c = search needs
 
--- src/lib.rt:68:1
 returns-2 : tie.Need-returns-2
 returns-2 c = search needs
 
--- src/lib.rt:68:1
 returns-3 : tie.Need-returns-3
 returns-3 c = search needs
 
--- src/lib.rt:68:1
 returns-4 : tie.Need-returns-4
 returns-4 c = search needs
 
--- src/lib.rt:68:1
 returns-5 : tie.Need-returns-5
 returns-5 c = search needs
 
--- src/lib.rt:68:1
 returns-6 : tie.Need-returns-6
 returns-6 c = search needs
 
--- src/lib.rt:68:1
 returns-7 : tie.Need-returns-7
 returns-7 c = search needs
 
--- src/lib.rt:68:1
 returns-8 : tie.Need-returns-8
 returns-8 c = search needs
 
--- src/lib.rt:68:1
 returns-9 : tie.Need-returns-9
 returns-9 c = search needs
 
--- src/lib.rt:68:1
 returns-10 : tie.Need-returns-10
 returns-10 c = let r = c .match .rest in
     nine (c .before .args .number) (c .before .pre) (r .0 .0 .0 .0 .0 .0 .0 .0 .1) (r .0 .0 .0 .0 .0 .0 .0 .1) (r .0 .0 .0 .0 .0 .0 .1) (r .0 .0 .0 .0 .0 .1)

@@ -1,19 +1,12 @@
-use Prim.Native.Nat.{ℕ, _+_, _-_, _*_, _/_, _≤_, _<_, min}
+-- Turn by turn a slot that is a label becomes its pc.
+use Prim.Native.Nat.{_-_}
 use Rattle.compile.proofs.Relabels.{Relabels, relabels-start, relabels-turn, relabels-end}
-use mathlib.Core.Path.{_≡_, refl, sym, ap, _∙_}
 use denote.Ref.{now}
-use Prim.Native.Nat.{ℕ, _+_, _-_, _*_, _≤_, _<_, min}
 use native.Mathlib.Omega.{arith}
-use borrow.Author.Tests.{ltb-true, ltb-false, leb-true, leb-false, eqb-true, eqb-false, not-true, not-false, lt-ltb, le-ltb, le-leb, lt-leb, eq-eqb, ne-eqb}
-use lib.Dec.{leb, ltb, eqb}
-use lib.ListN.{length, getD, take, drop, set}
+use lib.ListN.{getD}
 use borrow.Author.Needs.{needs}
-use Rattle.compile.proofs.Relabels.{relabelled, relabel-start, slot-is, relabel-turn}
 use Rattle.compile.proofs.resolve_targets.Statement.{statement}
 use Rattle.compile.proofs.resolve_targets.Tie as tie
-use Rattle.compile.proofs.resolve_targets.Reads as reads
-use Rattle.compile.proofs.resolve_targets.Lts as lts
-use Rattle.base.proofs.get64.Reads as get64-reads
 
 abbrev Inv-loop : tie.InvT-loop
 Inv-loop targets₀ labels from end i₀ targets i = Relabels labels targets₀ from end i targets
@@ -21,63 +14,50 @@ Inv-loop targets₀ labels from end i₀ targets i = Relabels labels targets₀ 
 abbrev μ-loop : tie.MeasureT-loop
 μ-loop targets₀ labels from end i₀ targets i = end - i
 
--- src/lib.rt:147:5
 loop-holds : tie.Need-loop-holds Inv-loop μ-loop
 loop-holds c = let a = c .before .before .args in
     relabels-start (a .labels .now) (a .targets .now) (a .from) (a .end) (c .before .before .pre .0) (c .before .before .pre .1)
 
--- src/lib.rt:148:42
 mul-get64 : tie.Need-mul-get64 Inv-loop μ-loop
 mul-get64 c = let r = c .before .loop .inv in
     omega (arith, r .fits)
 
--- src/lib.rt:148:42
 slice-read-get64 : tie.Need-slice-read-get64 Inv-loop μ-loop
 slice-read-get64 c = let r = c .before .before .loop .inv in
     omega (arith, r .fits, r .same)
 
--- src/lib.rt:148:42
 cast-get64 : tie.Need-cast-get64 Inv-loop μ-loop
 cast-get64 c = omega (arith, c .slice-known2 .given (c .before .before .loop .i))
 
--- src/lib.rt:148:22
 get64-requires : tie.Need-get64-requires Inv-loop μ-loop
 get64-requires c κs = search needs
 
--- src/lib.rt:148:22
 cast-targets : tie.Need-cast-targets Inv-loop μ-loop
 cast-targets c = rw (c .get64 .ensures) (omega (arith, c .before .before .before .before .before .before .pre .2 (getD (c .before .before .before .loop .targets) (c .before .before .before .loop .i) 0)))
 
--- src/lib.rt:148:9
 mul-targets : tie.Need-mul-targets Inv-loop μ-loop
 mul-targets c = let r = c .before .before .before .loop .inv in
     omega (arith, r .fits)
 
--- src/lib.rt:148:9
 slice-write-targets : tie.Need-slice-write-targets Inv-loop μ-loop
 slice-write-targets c = let r = c .before .before .before .loop .inv in
     omega (arith, r .fits, r .same)
 
--- src/lib.rt:149:9
 add-i : tie.Need-add-i Inv-loop μ-loop
 add-i c = let r = c .before .before .before .loop .inv in
     omega (arith, r .fits)
 
--- src/lib.rt:147:5
 loop-less : tie.Need-loop-less Inv-loop μ-loop
 loop-less c = omega arith
 
--- src/lib.rt:147:5
 loop-again : tie.Need-loop-again Inv-loop μ-loop
 loop-again c = let a = c .before .before .before .before .before .before .args in
     let s = c .before .before .before .loop in
     relabels-turn (a .labels .now) (a .targets .now) (a .from) (a .end) (s .i) (s .targets) _ (s .inv) (c .before .before .loop-test .taken) (c .get64 .ensures)
 
--- src/lib.rt:142:1
 same-length : tie.Need-same-length Inv-loop μ-loop
 same-length c = c .before .loop .inv .same
 
--- src/lib.rt:142:1
 returns : tie.Need-returns Inv-loop μ-loop
 returns c = let a = c .before .before .before .before .args in
     let s = c .before .loop in

@@ -1,28 +1,19 @@
-use Rattle.compile.proofs.Sizes.{goes, fails, product, slots-over, slots-few}
-use mathlib.Core.Path.{_≡_, refl, sym, ap, _∙_}
-use denote.Ref.{now}
-use Prim.Native.Nat.{ℕ, _+_, _-_, _*_, _≤_, _<_, min}
+-- A count of 32 bits or more fails at once, any other is judged by its words.
+use Rattle.compile.proofs.Sizes.{goes, fails, slots-over, slots-few}
+use Prim.Native.Nat.{_*_}
 use native.Mathlib.Omega.{arith}
-use borrow.Author.Tests.{ltb-true, ltb-false, leb-true, leb-false, eqb-true, eqb-false, not-true, not-false, lt-ltb, le-ltb, le-leb, lt-leb, eq-eqb, ne-eqb}
-use lib.Dec.{leb, ltb, eqb}
-use lib.ListN.{length, getD, take, drop, set}
-use borrow.Author.Needs.{needs}
-use Rattle.compile.proofs.Sizes.{goes, fails, product}
+use lib.Dec.{leb, ltb}
+use Rattle.lists.proofs.Sizes.{product}
 use Rattle.compile.proofs.slots_within.Statement.{statement}
 use Rattle.compile.proofs.slots_within.Tie as tie
-use Rattle.compile.proofs.slots_within.Reads as reads
-use Rattle.compile.proofs.slots_within.Lts as lts
 
--- src/lib.rt:103:9
 returns : tie.Need-returns
 returns c = let a = c .before .args in
     fails (leb (a .words * a .used) (a .size)) (ltb (a .used) 4294967296) (slots-over (a .used) (c .if1 .taken))
 
--- src/lib.rt:105:5
 mul-result : tie.Need-mul-result
 mul-result c = omega (arith, product (c .before .args .words) (c .before .args .used) 4294967295 (c .before .pre) (c .if1 .left))
 
--- src/lib.rt:98:1
 returns-2 : tie.Need-returns-2
 returns-2 c = let a = c .before .args in
     goes (leb (a .words * a .used) (a .size)) (ltb (a .used) 4294967296) (slots-few (a .used) (c .if1 .left))

@@ -1,10 +1,10 @@
--- The walk writes the first words of the map, one for each value.
+-- The walk writes the first words of the map and of the noted registers, one for each value.
 use denote.Ref.{now}
 use mathlib.Core.Path.{sym}
 use lib.Seq.{length-take-le}
 use Rattle.place.specs.Registers.{registers}
 use Rattle.ready.proofs.Given.{fits}
-use Rattle.placing.proofs.Parts.{room-says, parts-lent, walked-alloc, walked-front}
+use Rattle.placing.proofs.Parts.{room-says, parts-lent, walked-alloc, walked-front, walked-noted}
 use borrow.Author.Needs.{needs}
 use Rattle.placing.proofs.give.Statement.{statement}
 use Rattle.placing.proofs.give.Tie as tie
@@ -56,7 +56,7 @@ returns : tie.Need-returns
 returns c = let a = c .before .before .before .before .before .before .before .before .before .before .before .before .before .before .before .args in
     let g = c .before .before .before .before .before .before .give-places in
     let room = room-says (now (a .ws)) (now (a .map)) (now (a .hints)) (now (a .noted)) _ (c .before .before .before .before .before .before .before .before .before .before .head-field .ensures) (c .before .before .before .before .before .before .before .before .before .before .before .before .before .before .before .pre .1) in
-    (walked-alloc registers (now (a .ws)) _ _ _ _ (g .ensures .1), walked-front registers (now (a .ws)) _ _ _ _ (g .ensures .1) (now (a .map)) _ (room .for-map) (g .kept .1 .0))
+    (walked-alloc registers (now (a .ws)) _ _ _ _ (g .ensures .1), walked-front registers (now (a .ws)) _ _ _ _ (g .ensures .1) (now (a .map)) _ (room .for-map) (g .kept .1 .0), walked-noted registers (now (a .ws)) _ _ _ _ (g .ensures .1) (now (a .noted)) _ (c .before .before .before .before .before .before .before .before .before .before .head-field .ensures) (room .for-noted) (g .kept .1 .1 .1 .0), g .ensures .0)
 
 pub give-spec : {M : Type 1} → statement M
 give-spec =

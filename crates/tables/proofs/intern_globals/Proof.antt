@@ -6,10 +6,10 @@ use Rattle.tables.proofs.intern_globals.Statement.{statement}
 use Rattle.tables.proofs.intern_globals.Tie as tie
 
 intern-strings-requires : tie.Need-intern-strings-requires
-intern-strings-requires c κs = search needs
+intern-strings-requires c κs = c .before .before .before .pre .instrs
 
 intern-pass-requires : tie.Need-intern-pass-requires
-intern-pass-requires c κs = search needs
+intern-pass-requires c κs = c .before .before .before .before .before .before .before .pre .instrs
 
 same-length : tie.Need-same-length
 same-length c = search needs

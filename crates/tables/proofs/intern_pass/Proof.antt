@@ -27,7 +27,7 @@ loop-holds c =
     (refl, blocks-start (constants-in-turn (askedBy (a .strings)) (now (a .ws))) (rowsBy (a .strings) (now (a .ws))) (now (a .ws)) (c .head-field .result) _ _)
 
 intern-block-requires : tie.Need-intern-block-requires Inv-loop μ-loop
-intern-block-requires c κs = λ live. c .before .before .before .before .before .before .pre .instrs _ (record { there = rw (c .before .before .before .head-field .ensures) at (c .before .loop-test .taken); is = live })
+intern-block-requires c κs = λ live. c .before .before .before .before .before .before .pre _ (record { there = rw (c .before .before .before .head-field .ensures) at (c .before .loop-test .taken); is = live })
 
 add-b : tie.Need-add-b Inv-loop μ-loop
 add-b c = omega (arith, c .before .before .before .before .loop-test .taken)

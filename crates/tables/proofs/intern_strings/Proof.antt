@@ -5,7 +5,7 @@ use Rattle.tables.proofs.intern_strings.Statement.{statement}
 use Rattle.tables.proofs.intern_strings.Tie as tie
 
 intern-pass-requires : tie.Need-intern-pass-requires
-intern-pass-requires c κs = search needs
+intern-pass-requires c κs = c .before .before .before .pre
 
 same-length : tie.Need-same-length
 same-length c = search needs

@@ -1,0 +1,1 @@
+// What a call keeps of the values in use past it: statement and proof, no code.

@@ -1,0 +1,1 @@
+// Demand 3 of what compiling emits: statement and proof, no code.

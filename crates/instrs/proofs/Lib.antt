@@ -1,0 +1,4 @@
+pub mod Chosen
+pub mod Places
+pub mod Lookups
+pub mod Instrs

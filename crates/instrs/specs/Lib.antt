@@ -1,0 +1,2 @@
+pub mod Instrs
+pub mod Needs

@@ -1,0 +1,15 @@
+pub mod Straight
+pub mod Adding
+pub mod Instrs
+pub mod Finish
+pub mod Leaving
+pub mod Edges
+pub mod Branches
+pub mod Pads
+pub mod Slots
+pub mod Heads
+pub mod Terms
+pub mod Blocks
+pub mod Standing
+pub mod Walk
+pub mod Theorem

@@ -1,0 +1,4 @@
+pub mod Sizes
+pub mod Kept
+pub mod Making
+pub mod Made
