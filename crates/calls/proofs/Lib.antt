@@ -1,4 +1,3 @@
 pub mod Masked
 pub mod Shuffling
 pub mod Calling
-pub mod Examples

@@ -1,8 +1,9 @@
 -- Document 01's examples marked *, computed by the definitions; those of moves for a machine with 32 registers: SCRATCH is 31, TMP is 30.
 use mathlib.Core.Path.{_≡_, refl}
-use Prim.Native.Nat.{ℕ, _+_}
+use Prim.Native.Nat.{ℕ, _+_, _-_, _^_}
 use mathlib.Core.List.{[], _∷_}
 use Rattle.base.specs.Masks.{hasBit, withBit, withoutBit}
+use Rattle.base.specs.Emission.{Out, emit}
 use Rattle.place.specs.declared.Reg.the-variants.{Gpr}
 use Rattle.place.specs.declared.Place.the-variants.{Slot, Register}
 use Rattle.place.specs.Places.{slotsFrom, foundOf}
@@ -11,7 +12,13 @@ use Rattle.alloc.specs.declared.Got.{Got}
 use Rattle.alloc.specs.declared.Got.the-variants as got
 use Rattle.alloc.specs.State.{maskOf, freshOf}
 use Rattle.alloc.specs.Allocation.{keptOf, goneOf, freeReg, freeSlot, release, releaseAll, expireOf, isFree, takeReg, lastFree, takeSlot, fromPool, hinted, takeOf, enter, newPlace, placeOf}
-use Rattle.op.specs.Ops.{mov, loadSlot, storeSlot}
+use Rattle.op.specs.Words.{word}
+use Rattle.op.specs.Ops.{mov, loadSlot, storeSlot, loadI, loadG, tail, call, ret}
+use Rattle.program.specs.Functions.{functionAt, bytecode}
+use Rattle.input.specs.Records.{intConst}
+use Rattle.lower.specs.Operands.{destReg, stored}
+use Rattle.lower.specs.Instructions.{isGlobal, constOps, lowerConst}
+use Rattle.calls.specs.Calls.{calledAs, tailWords}
 use Rattle.moves.specs.Moves.{moves, parkedIn, turns, parksIn, turnOps, turnSources, turnDestinations, turnParks, swapRemove}
 
 -- 1: g0>g1, g1>g0, s2>g5
@@ -57,3 +64,32 @@ example-4-reused = refl
 pub example-4-kept : second 6 ≡ got.At (Slot 0)
 unfolding second placeOf newPlace enter takeOf fromPool lastFree expireOf keptOf goneOf releaseAll release freeReg freeSlot takeReg takeSlot isFree hinted freshOf maskOf foundOf hasBit withBit withoutBit
 example-4-kept = refl
+
+-- 5, for a destination in register 5, whatever N is: Int 2147483646 is LoadI
+pub example-5-small : (n global : ℕ) (o : Out) → lowerConst n 5 intConst 2147483646 global o ≡ emit (word (loadI 5 2147483646)) o
+unfolding lowerConst constOps isGlobal destReg stored
+example-5-small n global o = refl
+
+-- 2147483647 is LoadG
+pub example-5-most : (n global : ℕ) (o : Out) → lowerConst n 5 intConst 2147483647 global o ≡ emit (word (loadG 5 global)) o
+unfolding lowerConst constOps isGlobal destReg stored
+example-5-most n global o = refl
+
+-- -2147483648 is LoadG, and the next above it LoadI
+pub example-5-least : (n global : ℕ) (o : Out) → lowerConst n 5 intConst (2 ^ 64 - 2147483648) global o ≡ emit (word (loadG 5 global)) o
+unfolding lowerConst constOps isGlobal destReg stored
+example-5-least n global o = refl
+
+pub example-5-above-least : (n global : ℕ) (o : Out)
+    → lowerConst n 5 intConst (2 ^ 64 - 2147483647) global o ≡ emit (word (loadI 5 (2 ^ 32 - 2147483647))) o
+unfolding lowerConst constOps isGlobal destReg stored
+example-5-above-least n global o = refl
+
+-- 6, of bytecode that starts at pc 7: with 19 arguments Tail, with 20 Call and Ret
+pub example-6-nineteen : tailWords (functionAt bytecode 7) 19 ≡ word (tail 7) ∷ []
+unfolding tailWords
+example-6-nineteen = refl
+
+pub example-6-twenty : tailWords (functionAt bytecode 7) 20 ≡ word (call 7) ∷ word ret ∷ []
+unfolding tailWords calledAs
+example-6-twenty = refl

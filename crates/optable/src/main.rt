@@ -1,100 +1,9 @@
-// Prints the page docs/OPS.md. Which fields an op uses is op's proved table; only the names stand here.
-ghost use Prim.Native.Nat.{_≤_};
-ghost use lib.ListN.{length};
+// Prints the page docs/OPS.md. Which fields an op uses is op's proved table; the names are opnames'.
 use libc::STDOUT_FILENO;
-
-// Each op and its fields a, b, c and w by name, in the order of the opcodes. A semicolon ends each name.
-const NAMES: [u8; 1142] = *b"\
-    Nop;;;;;\
-    Halt;;;;;\
-    Mov;dst;src;;;\
-    LoadI;dst;;;value;\
-    LoadG;dst;;;idx;\
-    Jmp;;;;target;\
-    JmpT;cond;;;target;\
-    JmpF;cond;;;target;\
-    JmpEqI;lhs;target, low byte;target, high byte;imm;\
-    JmpNeI;lhs;target, low byte;target, high byte;imm;\
-    JmpSEq;lhs;rhs;;target;\
-    JmpSNe;lhs;rhs;;target;\
-    Switch;subject;;;table;\
-    Lookup;dst;subject;;table;\
-    Tail;;;;func;\
-    Call;;;;func;\
-    Sys;argc;;;idx;\
-    Native;returns_double;;;idx;\
-    Push;src;;;;\
-    Push2;a;b;;;\
-    Push3;a;b;c;;\
-    Pop;dst;;;;\
-    Pop2;a;b;;;\
-    Pop3;a;b;c;;\
-    StoreSlot;src;;;slot;\
-    LoadSlot;dst;;;slot;\
-    CastToInt;dst;src;;;\
-    CastToDouble;dst;src;;;\
-    CastToBool;dst;src;;;\
-    Alloc;dst;kind;align;size;\
-    Store;base;src;;offset;\
-    Load;dst;base;;offset;\
-    AddrOf;dst;base;;offset;\
-    Ret;;;;;\
-    Assert;cond;;;;\
-    IAdd;dst;lhs;rhs;;\
-    ISub;dst;lhs;rhs;;\
-    IMul;dst;lhs;rhs;;\
-    IDiv;dst;lhs;rhs;;\
-    IMod;dst;lhs;rhs;;\
-    IAnd;dst;lhs;rhs;;\
-    ILt;dst;lhs;rhs;;\
-    IGt;dst;lhs;rhs;;\
-    IEq;dst;lhs;rhs;;\
-    DAdd;dst;lhs;rhs;;\
-    DSub;dst;lhs;rhs;;\
-    DMul;dst;lhs;rhs;;\
-    DDiv;dst;lhs;rhs;;\
-    DLt;dst;lhs;rhs;;\
-    DGt;dst;lhs;rhs;;\
-    BEq;dst;lhs;rhs;;\
-    SEq;dst;lhs;rhs;;\
-    IAddI;dst;lhs;;imm;\
-    ISubI;dst;lhs;;imm;\
-    IMulI;dst;lhs;;imm;\
-    IDivI;dst;lhs;;imm;\
-    IModI;dst;lhs;;imm;\
-    IAndI;dst;lhs;;imm;\
-    IEqI;dst;lhs;;imm;\
-    IGtI;dst;lhs;;imm;\
-    ILtI;dst;lhs;;imm;\
-    ";
-
-const SEPARATOR: u8 = b';';
+use opnames::NAMES;
 
 fn write(text: &[u8]) {
     io::write_all(STDOUT_FILENO, text);
-}
-
-// The end of the name that starts at `from`.
-fn name_end(names: &[u8], from: usize) -> usize
-    requires { ⌜ from ≤ length (now names) ⌝ }
-    ensures { λ r. ⌜ (from ≤ r) × (r ≤ length (now (names .entry))) ⌝ }
-{
-    let mut i = from;
-    while i < names.len() {
-        if names[i] == SEPARATOR {
-            return i;
-        }
-        i += 1;
-    }
-    i
-}
-
-// The start of the name after the one that ends at `end`.
-fn past(names: &[u8], end: usize) -> usize
-    requires { ⌜ end ≤ length (now names) ⌝ }
-    ensures { λ r. ⌜ r ≤ length (now (names .entry)) ⌝ }
-{
-    if end < names.len() { end + 1 } else { end }
 }
 
 // A used field without a name shows as `?`, and an unused one with a name as `!` and the name.
@@ -112,41 +21,36 @@ fn field(bit: u8, name: &[u8]) {
     write(name);
 }
 
-fn cell(bit: u8, names: &[u8], from: usize) -> usize
-    requires { ⌜ from ≤ length (now names) ⌝ }
-    ensures { λ r. ⌜ r ≤ length (now (names .entry)) ⌝ }
-{
-    let end = name_end(names, from);
-    field(bit, &names[from..end]);
-    past(names, end)
+fn cell(bit: u8, code: u8, column: u8) {
+    let name = opnames::name_of_op(code, column);
+    let from = name.from;
+    let end = name.end;
+    field(bit, &NAMES[from..end]);
 }
 
-// The row of an opcode, whose names start at `from`, the op's own first. Answers where the next row's names start.
-fn row(code: u8, names: &[u8], from: usize) -> usize
-    requires { ⌜ from ≤ length (now names) ⌝ }
-    ensures { λ r. ⌜ r ≤ length (now (names .entry)) ⌝ }
-{
+// The row of an opcode, the op's own name first.
+fn row(code: u8) {
     write(b"| ");
     io::print_decimal(STDOUT_FILENO, code as u64);
     let fields = op::fields(code);
-    let at_a = cell(1, names, from);
-    let at_b = cell(fields % 2, names, at_a);
-    let at_c = cell(fields / 2 % 2, names, at_b);
-    let at_w = cell(fields / 4 % 2, names, at_c);
-    let next = cell(fields / 8 % 2, names, at_w);
+    cell(1, code, 0);
+    cell(fields % 2, code, 1);
+    cell(fields / 2 % 2, code, 2);
+    cell(fields / 4 % 2, code, 3);
+    cell(fields / 8 % 2, code, 4);
     write(b" |\n");
-    next
 }
 
 // Names that are left over stand below the rows.
-fn rows(names: &[u8]) {
-    let mut at = 0;
+fn rows() {
     let mut code: u8 = 0;
     while code < 61 {
-        at = row(code, names, at);
+        row(code);
         code += 1;
     }
-    write(&names[at..]);
+    let rest = opnames::name_of_op(61, 0);
+    let from = rest.from;
+    write(&NAMES[from..]);
 }
 
 fn worked(name: &[u8], word: u64) {
@@ -178,6 +82,6 @@ fn example() {
 
 fn main() {
     intro();
-    rows(&NAMES);
+    rows();
     example();
 }

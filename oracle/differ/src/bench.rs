@@ -8,6 +8,8 @@ use garden::model::{Constant, Function, Program};
 use garden::random::{self, Style};
 use garden::rng::Random;
 use garden::xralloc2::{Class, Location, Reg, Xralloc2};
+use std::alloc::{GlobalAlloc, Layout, System};
+use std::sync::atomic::{AtomicBool, AtomicUsize, Ordering::Relaxed};
 use std::time::{Duration, Instant};
 
 const SEED: u64 = 0x4f08286203;
@@ -107,8 +109,8 @@ fn sets() -> Vec<(&'static str, Program)> {
     };
     vec![
         ("small site, 40 functions", many(40, style(|s| s.blocks = 5), 1)),
-        ("large functions", many(4, style(|s| (s.blocks, s.instrs, s.long) = (150, 25, 0)), 2)),
-        ("heavy pressure", many(4, style(|s| (s.blocks, s.instrs, s.kept) = (30, 20, 100)), 3)),
+        ("large functions", many(4, style(|s| (s.blocks, s.instrs, s.long) = (80, 20, 0)), 2)),
+        ("heavy pressure", many(4, style(|s| (s.blocks, s.instrs, s.kept) = (10, 12, 70)), 3)),
         ("long lists of moves", Program { functions: (1..5).map(|id| turning(id, 120)).collect(), table: vec![0; 64], ..Program::default() }),
     ]
 }
@@ -133,9 +135,44 @@ fn ours(program: &Program, words: &[Vec<u32>], done: &Compiled, rounds: u32) -> 
     (start.elapsed() / rounds, lent.used.ops as usize)
 }
 
-/// The whole compiler on each set: nanoseconds an op emitted.
+/// The system's allocator, which counts while it is asked to: bytes held, and the most so far.
+pub struct Counting;
+
+static COUNTS: AtomicBool = AtomicBool::new(false);
+static HELD: AtomicUsize = AtomicUsize::new(0);
+static MOST: AtomicUsize = AtomicUsize::new(0);
+
+// SAFETY: everything is the system's.
+unsafe impl GlobalAlloc for Counting {
+    unsafe fn alloc(&self, layout: Layout) -> *mut u8 {
+        if COUNTS.load(Relaxed) {
+            let held = HELD.fetch_add(layout.size(), Relaxed) + layout.size();
+            MOST.fetch_max(held, Relaxed);
+        }
+        unsafe { System.alloc(layout) }
+    }
+
+    unsafe fn dealloc(&self, place: *mut u8, layout: Layout) {
+        if COUNTS.load(Relaxed) {
+            let _ = HELD.fetch_update(Relaxed, Relaxed, |held| Some(held.saturating_sub(layout.size())));
+        }
+        unsafe { System.dealloc(place, layout) }
+    }
+}
+
+/// How much is held at most while this runs, over what was held before, in KB.
+fn peak(run: impl FnOnce()) -> usize {
+    HELD.store(0, Relaxed);
+    MOST.store(0, Relaxed);
+    COUNTS.store(true, Relaxed);
+    run();
+    COUNTS.store(false, Relaxed);
+    MOST.load(Relaxed) / 1024
+}
+
+/// The whole compiler on each set: nanoseconds an op emitted, and memory at most.
 pub fn sets_timed() {
-    println!("set | functions | words in | ops out | ns an op, ours | the Rust | ratio");
+    println!("set | functions | words in | ops out | ns an op, ours | the Rust | ratio | KB, ours | the Rust");
     for (name, program) in sets() {
         let done = compile(&program);
         let words: Vec<Vec<u32>> = program.functions.iter().map(|f| f.to_words()).collect();
@@ -144,14 +181,16 @@ pub fn sets_timed() {
         assert_eq!(ops, their_ops, "both emit as many ops");
         let (a, b) = (per(our_time, ops), per(their_time, ops));
         let total: usize = words.iter().map(Vec::len).sum();
-        println!("{name} | {} | {total} | {ops} | {a:.1} | {b:.1} | {:.2}", program.functions.len(), a / b);
+        let (our_peak, their_peak) = (peak(|| _ = ours(&program, &words, &done, 1)), peak(|| _ = time(&program, 1)));
+        let count = program.functions.len();
+        println!("{name} | {count} | {total} | {ops} | {a:.1} | {b:.1} | {:.2} | {our_peak} | {their_peak}", a / b);
     }
 }
 
 /// How both grow: one function of so many blocks.
 pub fn growth() {
     println!("blocks | ops out | ns an op, ours | the Rust");
-    for blocks in [10, 20, 40, 80, 160, 320] {
+    for blocks in [5, 10, 20, 40, 80] {
         let style = Style { blocks, instrs: 20, tombstones: 0, long: 0, ..Style::small() };
         let f = (0..).map(|k| random::function(&mut Random::numbered(7, k), &style, 1, &[])).find(|f| garden::compile::places(f, &[0, 1]).number == 0).unwrap();
         let program = Program { functions: vec![f], table: vec![0; 2], strings_first: true };

@@ -20,6 +20,9 @@ use std::collections::BTreeMap;
 
 const SEED: u64 = 0x4f08286203;
 
+#[global_allocator]
+static ALLOCATOR: bench::Counting = bench::Counting;
+
 /// What was reached: how often each thing was there, by name.
 #[derive(Default)]
 struct Reached {

@@ -27,6 +27,7 @@ pub mod compile;
 pub mod convert;
 pub mod intervals;
 pub mod model;
+pub mod parse;
 pub mod random;
 pub mod rng;
 pub mod rows;

@@ -1,15 +1,14 @@
--- The position stays within the names, by what `row` ensures, and the opcodes that are left grow fewer. Assumes nothing.
-use Prim.Native.Nat.{_≤_, _-_}
+-- The opcodes that are left grow fewer. Assumes nothing.
+use Prim.Native.Nat.{_-_}
 use borrow.Author.Needs.{needs}
-use lib.ListN.{length}
 use Rattle.optable.proofs.rows.Statement.{statement}
 use Rattle.optable.proofs.rows.Tie as tie
 
 abbrev Inv-loop : tie.InvT-loop
-Inv-loop names at₀ code₀ at code = at ≤ length names
+Inv-loop code₀ t4 code = Unit {0}
 
 abbrev μ-loop : tie.MeasureT-loop
-μ-loop names at₀ code₀ at code = 61 - code
+μ-loop code₀ t4 code = 61 - code
 
 loop-holds : tie.Need-loop-holds Inv-loop μ-loop
 loop-holds c = search needs
@@ -25,6 +24,9 @@ loop-less c = search needs
 
 loop-again : tie.Need-loop-again Inv-loop μ-loop
 loop-again c = search needs
+
+name-of-op-requires : tie.Need-name-of-op-requires Inv-loop μ-loop
+name-of-op-requires c κs = search needs
 
 sub-write : tie.Need-sub-write Inv-loop μ-loop
 sub-write c = search needs
@@ -52,6 +54,7 @@ rows-spec =
     add-code
     loop-less
     loop-again
+    name-of-op-requires
     sub-write
     part-write-start
     part-write-end

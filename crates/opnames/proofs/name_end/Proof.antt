@@ -2,8 +2,8 @@
 use Prim.Native.Nat.{_≤_, _-_}
 use native.Mathlib.Omega.{arith}
 use lib.ListN.{length}
-use Rattle.optable.proofs.name_end.Statement.{statement}
-use Rattle.optable.proofs.name_end.Tie as tie
+use Rattle.opnames.proofs.name_end.Statement.{statement}
+use Rattle.opnames.proofs.name_end.Tie as tie
 
 abbrev Inv-loop : tie.InvT-loop
 Inv-loop names from i₀ i = (from ≤ i) × (i ≤ length names)
