@@ -1,4 +1,4 @@
--- Sums in range, by the bounds that the loop keeps.
+-- Each buffer keeps its length.
 use Prim.Native.Nat.{_≤_, _-_}
 use mathlib.Core.Path.{_≡_}
 use lib.ListN.{length}
@@ -7,11 +7,11 @@ use Rattle.judge_cases.proofs.replay_all.Statement.{statement}
 use Rattle.judge_cases.proofs.replay_all.Tie as tie
 
 abbrev Inv-loop : tie.InvT-loop
-Inv-loop bytes₀ ws₀ functions₀ cases done₀ differ₀ t8 bytes ws functions done differ =
-    (done ≤ cases) × ((differ ≤ done) × ((length bytes ≡ length bytes₀) × ((length ws ≡ length ws₀) × (length functions ≡ length functions₀))))
+Inv-loop bytes₀ ws₀ table₀ cases tally₀ done₀ t9 bytes ws table tally done =
+    (done ≤ cases) × ((length bytes ≡ length bytes₀) × ((length ws ≡ length ws₀) × (length table ≡ length table₀)))
 
 abbrev μ-loop : tie.MeasureT-loop
-μ-loop bytes₀ ws₀ functions₀ cases done₀ differ₀ t8 bytes ws functions done differ = cases - done
+μ-loop bytes₀ ws₀ table₀ cases tally₀ done₀ t9 bytes ws table tally done = cases - done
 
 next-word-requires : tie.Need-next-word-requires Inv-loop μ-loop
 next-word-requires c κs = search needs
@@ -37,11 +37,11 @@ same-length-2 c = search needs
 same-length-3 : tie.Need-same-length-3 Inv-loop μ-loop
 same-length-3 c = search needs
 
+same-length-4 : tie.Need-same-length-4 Inv-loop μ-loop
+same-length-4 c = search needs
+
 returns : tie.Need-returns Inv-loop μ-loop
 returns c = search needs
-
-with-case-requires : tie.Need-with-case-requires Inv-loop μ-loop
-with-case-requires c κs = search needs
 
 add-done : tie.Need-add-done Inv-loop μ-loop
 add-done c = search needs
@@ -55,8 +55,8 @@ loop-again c = search needs
 report-requires : tie.Need-report-requires Inv-loop μ-loop
 report-requires c κs = search needs
 
-same-length-4 : tie.Need-same-length-4 Inv-loop μ-loop
-same-length-4 c = search needs
+report-calls-requires : tie.Need-report-calls-requires Inv-loop μ-loop
+report-calls-requires c κs = search needs
 
 same-length-5 : tie.Need-same-length-5 Inv-loop μ-loop
 same-length-5 c = search needs
@@ -82,11 +82,11 @@ replay-all-spec =
     same-length-2
     same-length-3
     returns
-    with-case-requires
     add-done
     loop-less
     loop-again
     report-requires
+    report-calls-requires
     same-length-4
     same-length-5
     same-length-6
