@@ -1,7 +1,5 @@
 // The entries for other languages; include/agnulfrosc.h declares them.
 use compact::Compacted;
-use compile::Answer;
-use judge::Verdict;
 use lists::Used;
 use moves_entry::Columns;
 use moves_entry::Emitted;
@@ -9,8 +7,8 @@ use op::Decoded;
 use strings::Strings;
 ghost use mathlib.Core.Path.{_≡_};
 ghost use Rattle.place.specs.Registers.{registers};
-ghost use Rattle.judge.specs.Judged.{verdictNumber, unfit};
-ghost use Rattle.compile.specs.Program.{answerNumber, lent};
+ghost use Rattle.judge.specs.Judged.{unfit};
+ghost use Rattle.compile.specs.Program.{lent};
 ghost use Rattle.strings.specs.Strings.{numberFor, indexFor, usedFor};
 ghost use Rattle.compact.specs.Entry as entries;
 ghost use Rattle.moves_entry.specs.Entry as moveEntries;
@@ -19,45 +17,12 @@ ghost use Rattle.op.specs.Words.{parts};
 ghost use Rattle.agnulfrosc.specs.Library.{usedIn, usedWords, leaves, compiledFor, interns, internedFor, usedAfter, compacts, compactedFor, columnsFor, moves, movedFor};
 ghost use lib.Seq.{sets};
 
-// Document 01's numbers of the answers.
-fn verdict_number(v: Verdict) -> u8
-    ensures { λ r. ⌜ r ≡ verdictNumber v ⌝ }
-{
-    match v {
-        Verdict::Fit => 0,
-        Verdict::BadWord => 1,
-        Verdict::TooMany => 2,
-        Verdict::BadShape => 3,
-        Verdict::DoubleDef => 4,
-        Verdict::BadInterval => 5,
-        Verdict::UnknownFunc => 6,
-        Verdict::BadKey => 7,
-    }
-}
-
-fn answer_number(a: Answer) -> u8
-    ensures { λ r. ⌜ r ≡ answerNumber a ⌝ }
-{
-    match a {
-        Answer::Done => 0,
-        Answer::BadWord => 1,
-        Answer::TooMany => 2,
-        Answer::BadShape => 3,
-        Answer::DoubleDef => 4,
-        Answer::BadInterval => 5,
-        Answer::UnknownFunc => 6,
-        Answer::BadKey => 7,
-        Answer::NoSlot => 8,
-        Answer::NoRoom => 9,
-    }
-}
-
 // The lowest number from 1 to 7 that applies to a function, 0 for none.
 #[no_mangle]
 pub extern "C" fn agnulfrosc_judge(words: &[u32], functions: &[u64]) -> u8
     ensures { λ r. ⌜ r ≡ unfit registers (now (words .entry)) (now (functions .entry)) ⌝ }
 {
-    verdict_number(judge::judge(words, functions))
+    judge::number_of(judge::judge(words, functions))
 }
 
 fn used_in(l: &[u64]) -> Used
@@ -127,7 +92,7 @@ pub extern "C" fn agnulfrosc_compile(
     let a = r.answer;
     let u = r.used;
     store_used(used, u);
-    answer_number(a)
+    compile::number_of(a)
 }
 
 // A number and an index for each answer of the string entry, and the used length where it stays.

@@ -1,19 +1,12 @@
 -- Placements one after the other from a fresh state. Call k is three numbers: the row, the end, and the hint, 0 for none, else 1 + the register;
 -- it places value k, of the general class.
-use Prim.Native.Nat.{ℕ, zero, suc, _+_, _*_, _-_, _/_}
+use Prim.Native.Nat.{ℕ, zero, suc, _+_, _*_, _/_}
 use mathlib.Core.List.{List, []}
-use lib.Dec.{leb, eqb}
 use lib.ListN.{length, getD}
-use Rattle.base.specs.Choice.{pick}
-use Rattle.place.specs.declared.Reg.the-variants.{Gpr}
 use Rattle.alloc.specs.declared.Alloc.{Alloc}
-use Rattle.alloc.specs.declared.Hint.{Hint}
-use Rattle.alloc.specs.declared.Hint.the-variants as to
 use Rattle.alloc.specs.State.{freshOf}
 use Rattle.alloc.specs.Allocation.{placeOf, mapAfterPlace}
-
-unfoldable pub hintFor : ℕ → Hint
-hintFor x = pick (eqb x 0) to.Nowhere (pick (leb x 64) (to.At (Gpr (x - 1))) to.Nowhere)
+use Rattle.assign.specs.Walk.{hintFor}
 
 pub record Placed : Type 0 where
   pub state : Alloc

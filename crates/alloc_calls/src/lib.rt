@@ -1,25 +1,10 @@
 // Placements one after the other, for another language to call and to time.
 use alloc::Alloc;
-use alloc::Hint;
-use place::Reg;
 ghost use mathlib.Core.Path.{_≡_};
 ghost use Prim.Native.Nat.{_<_, _/_};
 ghost use lib.ListN.{length};
 ghost use Rattle.alloc.specs.Good.{Good};
-ghost use Rattle.alloc_calls.specs.Placements.{hintFor, placed, place, allPlaced};
-
-// What a hint's word says.
-fn hint_for(x: u32) -> Hint
-    ensures { λ h. ⌜ h ≡ hintFor x ⌝ }
-{
-    if x == 0 {
-        return Hint::Nowhere;
-    }
-    if x <= 64 {
-        return Hint::At(Reg::Gpr((x - 1) as u8));
-    }
-    Hint::Nowhere
-}
+ghost use Rattle.alloc_calls.specs.Placements.{placed, place, allPlaced};
 
 // Call k is placed.
 fn place_one(s: Alloc, calls: &[u32], pool: &[u8], map: &mut [u32], k: usize) -> Alloc
@@ -30,7 +15,7 @@ fn place_one(s: Alloc, calls: &[u32], pool: &[u8], map: &mut [u32], k: usize) ->
 {
     let row = base::get32(calls, 3 * k);
     let end = base::get32(calls, 3 * k + 1);
-    let h = hint_for(base::get32(calls, 3 * k + 2));
+    let h = assign::hint_for(base::get32(calls, 3 * k + 2));
     let t = s.place(map, k, 0, row, end, h, pool);
     t.state
 }

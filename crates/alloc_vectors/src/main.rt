@@ -1,8 +1,7 @@
 // Replays sequences of allocator calls whose answers came from the Rust: the file stdin, made by tools/vectors with the commit's own xralloc2.
 // The file's words are u32, least byte first. The first says how many sequences there are. A sequence: the general pool list (count,
 // registers), the floating one, how many ids the map has, how many calls, then 10 words a call: kind, five arguments, four words of answer.
-// oracle/vectors/src/alloc.rs has the table of kinds. Then come the refusals of cases.rt.
-mod cases;
+// oracle/vectors/src/alloc.rs has the table of kinds.
 
 use alloc::Alloc;
 use alloc::Hint;
@@ -11,7 +10,9 @@ use place::Class;
 use place::Found;
 use place::Place;
 use place::Reg;
+ghost use mathlib.Core.Path.{_≡_};
 ghost use Prim.Native.Nat.{_≤_};
+ghost use lib.ListN.{length};
 
 // How many words the file may have, ids a map, and calls a sequence.
 const MOST_WORDS: usize = 65536;
@@ -334,9 +335,15 @@ fn replay_all(bytes: &[u8]) {
     report(done, calls, differ);
 }
 
+// As long as a file of the most words.
+fn no_text() -> [u8; 262144]
+    ensures { λ r. ⌜ 262144 ≡ length r ⌝ }
+{
+    [0; 262144]
+}
+
 fn main() {
-    let mut bytes = [0u8; 262144];
+    let mut bytes = no_text();
     let n = io::read_full(0, &mut bytes);
     replay_all(&bytes[..n]);
-    cases::all(b"\x01\x00");
 }

@@ -21,7 +21,7 @@ ghost use Rattle.assign.specs.Walk.{walk, hintFor, placeStep, pinStep, h
 ghost use Rattle.assign.specs.Fits.{Fits, Lent, runRows, rowsPlaced};
 
 // What a hint's word says.
-fn hint_for(x: u32) -> Hint
+pub fn hint_for(x: u32) -> Hint
     ensures { λ h. ⌜ h ≡ hintFor x ⌝ }
 {
     if x == 0 {

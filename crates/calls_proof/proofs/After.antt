@@ -21,11 +21,12 @@ use Rattle.machine.specs.Machine.{State, World, upd, gets, run, runWords, holds
 use Rattle.machine.specs.Stack.{pushesOf, popsOf}
 use Rattle.machine.proofs.Machine.{upd-same, upd-other}
 use Rattle.machine.proofs.Stack.{Undone, pops-undo}
+use Rattle.packs.proofs.Words.{Bytes, words-pops}
 use Rattle.moves.specs.AtOnce.{placeOk}
 use Rattle.moves.proofs.Checked.{place-within}
 use Rattle.lower.specs.Operands.{destReg}
 use Rattle.calls_proof.specs.CallsRight.{afterCall}
-use Rattle.calls_proof.proofs.Words.{Bytes, words-append, words-none, words-op, words-pops}
+use Rattle.calls_proof.proofs.Words.{words-append, words-none, words-op}
 
 -- the register that the result goes to first
 pub landing-reg : (n dst : ℕ) → ltb dst slotsFrom ≡ true → destReg n dst ≡ dst

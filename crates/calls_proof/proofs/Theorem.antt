@@ -23,13 +23,14 @@ use Rattle.machine.specs.Machine.{State, World, run, runWords, holds}
 use Rattle.machine.specs.Calls.{Kind, Keeps}
 use Rattle.machine.specs.Stack.{pushesOf, popsOf, raised}
 use Rattle.machine.proofs.Stack.{push-holds, push-height, push-regs, run-pushes}
+use Rattle.packs.proofs.Words.{Bytes, words-pushes}
 use Rattle.moves.proofs.Checked.{place-within}
 use Rattle.lower.specs.Operands.{placeAt, destReg, stored}
 use Rattle.edges.specs.Pairs.{movePairs}
 use Rattle.calls.specs.Calls.{pushedFor, pushedBelow, callWith, shuffle, lowerTail, tailWords}
 use Rattle.calls_proof.specs.CallsRight.{shuffleWords, beforeCall, afterCall, allPlaced, Called, CallRight, CallsTheorem}
 use Rattle.calls_proof.proofs.Masked.{pushed-in, pushed-past, pushed-low, pushed-noted, pushed-few, limit-few, limit-kept}
-use Rattle.calls_proof.proofs.Words.{Bytes, words-append, words-pushes}
+use Rattle.calls_proof.proofs.Words.{words-append}
 use Rattle.calls_proof.proofs.Shuffle.{shuffle-arrived, shuffle-kept, shuffle-stack}
 use Rattle.calls_proof.proofs.After.{landing-reg, landing-slot, after-pushed, after-other, after-result, after-slot, after-height}
 

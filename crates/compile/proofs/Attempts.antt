@@ -26,8 +26,9 @@ use Rattle.lists.specs.declared.Used.{Used}
 use Rattle.lists.specs.declared.Tried.{Tried}
 use Rattle.lists.specs.Lists.{Lists, listsAfter, listsFit, Started, ListsReady, Made, Listed}
 use Rattle.assemble.specs.Assemble.{functionsAfter, startOut, functionOut, opRoom, Lowerable, PlacesReady, ProgramReady, Put, Assembled}
+use Rattle.used.specs.Used.{labelsFor, labelsAt}
 use Rattle.compile.specs.Program.{Buffers, listsOf, lent}
-use Rattle.compile.specs.Compile.{usedOk, placesOf, newLists, finalOut, labelsAt, newTargets, labelsFor, entryOk, roomOk, refusal, doneOf}
+use Rattle.compile.specs.Compile.{usedOk, placesOf, newLists, finalOut, newTargets, entryOk, roomOk, refusal, doneOf}
 use Rattle.compile.specs.Attempt.{Sized, Finished, Kept, Attempted}
 use Rattle.placing.proofs.Low.{places-are, places-low}
 use Rattle.compile.proofs.Lowerable.{ready-given, lowerable-given}

@@ -1,5 +1,4 @@
 pub mod Sizes
-pub mod Relabels
 pub mod Endings
 pub mod Lowerable
 pub mod Refused

@@ -3,16 +3,11 @@ use mathlib.Core.Path.{_≡_, refl, sym, _∙_}
 use mathlib.Core.Logic.{⊎-elim}
 use mathlib.Core.Bool.{Bool, true, false, _&&_}
 use mathlib.Core.List.{List}
-use Prim.Native.Nat.{ℕ, _+_, _*_, _/_, _≤_, _<_, min}
-use native.Mathlib.Nat.{mul-le-mul, mul-le-mul-left, mul-div-le, div-lt-iff-lt-mul, mul-comm}
+use Prim.Native.Nat.{ℕ, _+_, _≤_, _<_, min}
 use native.Mathlib.Omega.{arith}
 use borrow.Author.Tests.{lt-ltb, le-ltb}
-use lib.Dec.{leb, ltb}
-use lib.ListN.{length}
+use lib.Dec.{ltb}
 use Rattle.base.specs.Choice.{pick}
-use Rattle.base.specs.Limits.{mostOfAKind}
-use Rattle.base.specs.Buffers.{zeroFrom}
-use Rattle.base.proofs.Buffers.{zeroFrom-past}
 use Rattle.base.proofs.Numbers.{lt?, pick-true}
 use Rattle.base.proofs.Numbers as test
 use Rattle.input.specs.Forms.{both, wordsOk}
@@ -25,6 +20,7 @@ use Rattle.fit.specs.Keys.{keyedOk}
 use Rattle.judge.specs.Judged.{unfit}
 use Rattle.judge.proofs.Lowest.{bad-word}
 use Rattle.lists.specs.declared.Used.{Used}
+use Rattle.used.specs.Used.{within, slotsWithin}
 use Rattle.compile.specs.declared.Lengths.{Lengths}
 use Rattle.compile.specs.Program.{Buffers}
 use Rattle.compile.specs.Compile.{usedOk}
@@ -45,52 +41,6 @@ nine k h a b c d e f g i j =
 
     zero-le : (k : ℕ) → 0 ≤ k
     zero-le k = omega arith
-
--- a chain that ends with a test that passes, and with one that fails
-pub goes : (x y : Bool) → y ≡ true → x ≡ both x y
-goes true y e = sym e
-goes false y e = refl
-
-pub fails : (x y : Bool) → y ≡ false → false ≡ both x y
-fails true y e = sym e
-fails false y e = refl
-
--- slots are counted in 32 bits
-pub slots-over : (used : ℕ) → 4294967295 < used → ltb used 4294967296 ≡ false
-slots-over used h = le-ltb used 4294967296 (omega arith)
-
-pub slots-few : (used : ℕ) → used ≤ 4294967295 → ltb used 4294967296 ≡ true
-slots-few used h = lt-ltb used 4294967296 (omega arith)
-
--- records of a buffer, and those that pass it
-pub records-in : (words used size : ℕ) → used ≤ size / words → words * used ≤ size
-records-in words used size h =
-    let a : words * used ≤ words * (size / words) = mul-le-mul-left words h in
-    omega (arith, mul-div-le size words)
-
-pub records-past : (words used size : ℕ) → 1 ≤ words → size / words < used → size ≤ words * used
-records-past words used size h k =
-    let a : size < used * words = div-lt-iff-lt-mul {k = words} (omega arith) .0 k in
-    rw (mul-comm words used) (omega arith)
-
-pub wiped-past : (l : List ℕ) (words used : ℕ) → 1 ≤ words → length l / words < used → l ≡ zeroFrom l (words * used)
-wiped-past l words used h k = sym (zeroFrom-past l (words * used) (records-past words used (length l) h k))
-
--- a product of two words fits 64 bits
-pub pads-fit : (x y : ℕ) → x < 4294967296 → y < 4294967296 → x * y < 18446744073709551616
-pads-fit x y h k =
-    let a : x ≤ 4294967295 = omega arith in
-    let b : y ≤ 4294967295 = omega arith in
-    let m : x * y ≤ 4294967295 * 4294967295 = mul-le-mul a b in
-    omega arith
-
--- labels of so many blocks and edges, with no more pads than ops allow
-module _ (x y blocks edges : ℕ) (b : x ≡ blocks) (e : y ≡ edges) where
-  pub labels-few : x * y < 32767 → 2 * x + x * y ≡ 2 * blocks + min (blocks * edges) 32767
-  labels-few h = rw (← b, ← e) (let m : min (x * y) 32767 ≡ x * y = omega arith in rw m)
-
-  pub labels-many : 32767 ≤ x * y → 2 * x + 32767 ≡ 2 * blocks + min (blocks * edges) 32767
-  labels-many h = rw (← b, ← e) (let m : min (x * y) 32767 ≡ 32767 = omega arith in rw m)
 
 -- an entry in the function table: below both bounds is below the lower
 pub under-both : (x : Bool) (k a b : ℕ) → (x && ltb k a && ltb k b) ≡ both x (ltb k (min a b))
@@ -113,14 +63,14 @@ all-eight false q r s t u v w = refl
 
 -- the used lengths, each by its own test
 pub used-is : (n : Lengths) (u : Used) (b : Buffers) → Sized n b → (p q r s t v w x : Bool)
-    → p ≡ both (leb (1 * u .ops) (n .ops)) (leb (u .ops) mostOfAKind)
-    → q ≡ both (leb (1 * u .ops) (n .spans)) (leb (u .ops) mostOfAKind)
-    → r ≡ both (leb (2 * u .globals) (n .globals)) (leb (u .globals) mostOfAKind)
-    → s ≡ both (leb (1 * u .builtins) (n .builtins)) (leb (u .builtins) mostOfAKind)
-    → t ≡ both (leb (3 * u .switches) (n .switches)) (leb (u .switches) mostOfAKind)
-    → v ≡ both (leb (1 * u .targets) (n .targets)) (ltb (u .targets) 4294967296)
-    → w ≡ both (leb (5 * u .lookups) (n .lookups)) (leb (u .lookups) mostOfAKind)
-    → x ≡ both (leb (2 * u .values) (n .values)) (ltb (u .values) 4294967296)
+    → p ≡ within 1 (u .ops) (n .ops)
+    → q ≡ within 1 (u .ops) (n .spans)
+    → r ≡ within 2 (u .globals) (n .globals)
+    → s ≡ within 1 (u .builtins) (n .builtins)
+    → t ≡ within 3 (u .switches) (n .switches)
+    → v ≡ slotsWithin 1 (u .targets) (n .targets)
+    → w ≡ within 5 (u .lookups) (n .lookups)
+    → x ≡ slotsWithin 2 (u .values) (n .values)
     → (((((((p && q) && r) && s) && t) && v) && w) && x) ≡ usedOk b u
 unfolding usedOk
 used-is n u b z p q r s t v w x a c d e f g h i =

@@ -9,7 +9,7 @@ use Rattle.base.specs.Choice.{pick}
 use Rattle.base.specs.Limits.{mostOfAKind}
 use Rattle.base.specs.Buffers.{zeroFrom}
 use Rattle.base.specs.Emission.{Out}
-use Rattle.input.specs.Layout.{functionId, blocks, edges}
+use Rattle.input.specs.Layout.{functionId}
 use Rattle.input.specs.Forms.{both, wordsOk}
 use Rattle.judge.specs.Judged.{unfit}
 use Rattle.assign.specs.Walk.{assigned, slotsMade, topUsed, slotsOk}
@@ -17,27 +17,21 @@ use Rattle.placing.specs.Placing.{roomOk as placesFit}
 use Rattle.instrs.specs.Instrs.{Env, seen}
 use Rattle.lists.specs.declared.Used.{Used}
 use Rattle.lists.specs.Lists.{Lists, globalWords, switchWords, lookupWords, valueWords, listsAfter, listsFit}
+use Rattle.used.specs.Used.{within, slotsWithin, labelsFor, labelsAt}
 use Rattle.assemble.specs.Assemble.{functionsAfter, startOut, functionOut, opRoom}
 use Rattle.compile.specs.Program.{Buffers, Outcome, listsOf}
 
--- 2: a used length beyond its buffer, or of a kind above 65,534. So many records of so many words each are used of a buffer.
-abbrev pub within : ℕ → ℕ → List ℕ → Bool
-within words used l = both (leb (words * used) (length l)) (leb used mostOfAKind)
-
--- slots of tables are counted in 32 bits
-abbrev pub slotsWithin : ℕ → ℕ → List ℕ → Bool
-slotsWithin words used l = both (leb (words * used) (length l)) (ltb used 4294967296)
-
+-- 2: a used length beyond its buffer, or of a kind above 65,534
 unfoldable pub usedOk : Buffers → Used → Bool
 usedOk b u =
-    both (within 1 (u .ops) (b .ops))
-    (both (within 1 (u .ops) (b .spans))
-    (both (within 2 (u .globals) (b .globals))
-    (both (within 1 (u .builtins) (b .builtins))
-    (both (within 3 (u .switches) (b .switches))
-    (both (slotsWithin 1 (u .targets) (b .targets))
-    (both (within 5 (u .lookups) (b .lookups))
-    (slotsWithin 2 (u .values) (b .values))))))))
+    both (within 1 (u .ops) (length (b .ops)))
+    (both (within 1 (u .ops) (length (b .spans)))
+    (both (within 2 (u .globals) (length (b .globals)))
+    (both (within 1 (u .builtins) (length (b .builtins)))
+    (both (within 3 (u .switches) (length (b .switches)))
+    (both (slotsWithin 1 (u .targets) (length (b .targets)))
+    (both (within 5 (u .lookups) (length (b .lookups)))
+    (slotsWithin 2 (u .values) (length (b .values)))))))))
 
 -- The places of the values, and the program behind its used lengths: the function's own entry in the table is the pc that it starts at, its
 -- constants and builtins are interned, strings first, its tables added.
@@ -62,18 +56,11 @@ unfoldable pub finalOut : ℕ → List ℕ → Buffers → Used → Out
 finalOut n ws b u = functionOut n (envOf n ws b u) u (topUsed n ws) (slotsMade n ws) (startOf ws b u)
 
 -- the labels of a switch table's slots become pcs
-abbrev pub labelsAt : List ℕ → List ℕ → List ℕ
-labelsAt labels l = map (λ t. getD labels t 0) l
-
 abbrev pub newTargets : ℕ → List ℕ → Buffers → Used → List ℕ
 newTargets n ws b u =
     take (u .targets) (newLists n ws b u .targets) ++ labelsAt (finalOut n ws b u .labels) (drop (u .targets) (newLists n ws b u .targets))
 
--- 9: the finished function needs more than is lent, or passes 65,534 of a kind. Labels: two for each block and one for each pad. Blocks may name
--- the same edges, so there are at most blocks · edges pads; a pad has two ops at least, so no function has more than 32,767 of them.
-abbrev pub labelsFor : List ℕ → ℕ
-labelsFor ws = 2 * blocks ws + min (blocks ws * edges ws) 32767
-
+-- 9: the finished function needs more than is lent, or passes 65,534 of a kind: labels and an entry in the function table,
 unfoldable pub entryOk : List ℕ → Buffers → Bool
 entryOk ws b =
     both (leb (labelsFor ws) (length (b .labels))) (ltb (functionId ws) (min (length (b .functions)) mostOfAKind))

@@ -1,21 +1,14 @@
 // Compiling one function.
-use judge::Verdict;
 use lists::Used;
 ghost use mathlib.Core.Path.{_≡_};
-ghost use mathlib.Core.Bool.{true, false};
-ghost use Prim.Native.Nat.{ℕ, _+_, _*_, _-_, _/_, _≤_, _<_};
-ghost use mathlib.Core.List.{List, _++_};
-ghost use lib.Dec.{leb, ltb, eqb};
-ghost use lib.ListN.{length, getD, take, drop};
+ghost use Prim.Native.Nat.{_≤_};
+ghost use lib.Dec.{eqb};
 ghost use Rattle.base.specs.Choice.{pick};
-ghost use Rattle.base.specs.Limits.{mostOfAKind};
-ghost use Rattle.base.specs.Buffers.{zeroFrom};
 ghost use Rattle.place.specs.Registers.{registers};
-ghost use Rattle.input.specs.Forms.{both, wordsOk};
-ghost use Rattle.judge.specs.Judged.{verdictNumber, unfit};
-ghost use Rattle.lists.specs.Lists.{globalWords, switchWords, lookupWords, valueWords};
+ghost use Rattle.input.specs.Forms.{wordsOk};
+ghost use Rattle.judge.specs.Judged.{unfit};
 ghost use Rattle.compile.specs.Program.{Buffers, answerNumber, lent, outcome};
-ghost use Rattle.compile.specs.Compile.{usedOk, labelsFor, entryOk, labelsAt, compiled};
+ghost use Rattle.compile.specs.Compile.{usedOk, entryOk, compiled};
 ghost use Rattle.compile.specs.Attempt.{Sized};
 
 pub enum Answer {
@@ -39,19 +32,21 @@ pub struct Compiled {
 // The most of a kind in a program.
 const MOST: usize = 65534;
 
-// Document 01's number of a verdict, and the answer of a number.
-fn number_of(v: Verdict) -> u8
-    ensures { λ r. ⌜ r ≡ verdictNumber v ⌝ }
+// Document 01's number of an answer, and the answer of a number.
+pub fn number_of(a: Answer) -> u8
+    ensures { λ r. ⌜ r ≡ answerNumber a ⌝ }
 {
-    match v {
-        Verdict::Fit => 0,
-        Verdict::BadWord => 1,
-        Verdict::TooMany => 2,
-        Verdict::BadShape => 3,
-        Verdict::DoubleDef => 4,
-        Verdict::BadInterval => 5,
-        Verdict::UnknownFunc => 6,
-        Verdict::BadKey => 7,
+    match a {
+        Answer::Done => 0,
+        Answer::BadWord => 1,
+        Answer::TooMany => 2,
+        Answer::BadShape => 3,
+        Answer::DoubleDef => 4,
+        Answer::BadInterval => 5,
+        Answer::UnknownFunc => 6,
+        Answer::BadKey => 7,
+        Answer::NoSlot => 8,
+        Answer::NoRoom => 9,
     }
 }
 
@@ -73,50 +68,6 @@ fn answer_of(number: u8) -> Answer
     }
 }
 
-// So many records of `words` words each are used of a buffer of `length` words.
-fn within(words: usize, used: usize, size: usize) -> bool
-    requires { ⌜ words ≤ 5 ⌝ }
-    ensures { λ r. ⌜ r ≡ both (leb (words * used) size) (leb used mostOfAKind) ⌝ }
-{
-    if MOST < used {
-        return false;
-    }
-    words * used <= size
-}
-
-// Slots of tables are counted in 32 bits.
-fn slots_within(words: usize, used: usize, size: usize) -> bool
-    requires { ⌜ words ≤ 5 ⌝ }
-    ensures { λ r. ⌜ r ≡ both (leb (words * used) size) (ltb used 4294967296) ⌝ }
-{
-    if 4294967295 < used {
-        return false;
-    }
-    words * used <= size
-}
-
-// The slots of the new switch tables, which are labels, become pcs.
-fn resolve_targets(targets: &mut [u32], labels: &[u64], from: usize, end: usize)
-    requires { ⌜ (from ≤ end) × (end ≤ length (now targets)) × ((t : ℕ) → getD (now labels) t 0 < 4294967296) ⌝ }
-    ensures { λ _. ⌜ now (targets .exit) ≡ take from (now (targets .entry)) ++ labelsAt (now (labels .entry)) (take (end - from) (drop from (now (targets .entry)))) ++ drop end (now (targets .entry)) ⌝ }
-{
-    let mut i = from;
-    while i < end {
-        targets[i] = base::get64(labels, targets[i] as usize) as u32;
-        i += 1;
-    }
-}
-
-// The same, unless a number says that the function is refused.
-fn finish_targets(k: u8, targets: &mut [u32], labels: &[u64], from: usize, end: usize)
-    requires { ⌜ (k ≡ 0 → (from ≤ end) × (end ≤ length (now targets)) × ((t : ℕ) → getD (now labels) t 0 < 4294967296)) ⌝ }
-    ensures { λ _. ⌜ (k ≡ 0 → now (targets .exit) ≡ take from (now (targets .entry)) ++ labelsAt (now (labels .entry)) (take (end - from) (drop from (now (targets .entry)))) ++ drop end (now (targets .entry))) × ((k ≡ 0 → ⊥) → now (targets .exit) ≡ now (targets .entry)) ⌝ }
-{
-    if k == 0 {
-        resolve_targets(targets, labels, from, end);
-    }
-}
-
 // The lengths of the lent buffers.
 struct Lengths {
     ops: usize,
@@ -135,21 +86,21 @@ struct Lengths {
 fn used_ok(n: Lengths, u: Used) -> bool
     ensures { λ r. ⌜ ((b : Buffers) → Sized n b → r ≡ usedOk b u) ⌝ }
 {
-    within(1, u.ops, n.ops)
-        & within(1, u.ops, n.spans)
-        & within(2, u.globals, n.globals)
-        & within(1, u.builtins, n.builtins)
-        & within(3, u.switches, n.switches)
-        & slots_within(1, u.targets, n.targets)
-        & within(5, u.lookups, n.lookups)
-        & slots_within(2, u.values, n.values)
+    used::within(1, u.ops, n.ops)
+        & used::within(1, u.ops, n.spans)
+        & used::within(2, u.globals, n.globals)
+        & used::within(1, u.builtins, n.builtins)
+        & used::within(3, u.switches, n.switches)
+        & used::slots_within(1, u.targets, n.targets)
+        & used::within(5, u.lookups, n.lookups)
+        & used::slots_within(2, u.values, n.values)
 }
 
 // Refusals 1 to 7, 0 for none.
 fn early(ws: &[u32], functions: &[u64], n: Lengths, u: Used) -> u8
     ensures { λ r. ⌜ ((b : Buffers) → Sized n b → r ≡ pick (wordsOk (now (ws .entry))) (pick (usedOk b u) (unfit registers (now (ws .entry)) (now (functions .entry))) 2) 1) ⌝ }
 {
-    let v = number_of(judge::judge(ws, functions));
+    let v = judge::number_of(judge::judge(ws, functions));
     if v == 1 {
         return 1;
     }
@@ -159,24 +110,11 @@ fn early(ws: &[u32], functions: &[u64], n: Lengths, u: Used) -> u8
     2
 }
 
-// How many labels a function may have.
-fn labels_for(ws: &[u32]) -> usize
-    ensures { λ r. ⌜ r ≡ labelsFor (now (ws .entry)) ⌝ }
-{
-    let blocks = input::head_field(ws, 4) as usize;
-    let edges = input::head_field(ws, 6) as usize;
-    let pads = blocks * edges;
-    if pads < 32767 {
-        return 2 * blocks + pads;
-    }
-    2 * blocks + 32767
-}
-
 // Labels, and an entry in the function table.
 fn enough(ws: &[u32], n: Lengths) -> bool
     ensures { λ r. ⌜ ((b : Buffers) → Sized n b → r ≡ entryOk (now (ws .entry)) b) ⌝ }
 {
-    let labels = labels_for(ws);
+    let labels = used::labels_for(ws);
     let id = input::head_field(ws, 0) as usize;
     (labels <= n.labels) & (id < n.functions) & (id < MOST)
 }
@@ -192,48 +130,6 @@ fn with_entry(k: u8, ws: &[u32], n: Lengths) -> u8
         return 0;
     }
     9
-}
-
-// Zero from so many records of `words` words each on; nothing changes where they pass the buffer.
-fn wipe64(buf: &mut [u64], words: usize, used: usize)
-    requires { ⌜ 1 ≤ words ⌝ }
-    ensures { λ _. ⌜ now (buf .exit) ≡ zeroFrom (now (buf .entry)) (words * used) ⌝ }
-{
-    if used <= buf.len() / words {
-        base::zero64(buf, words * used);
-    }
-}
-
-// A refused compile keeps output before the old used lengths and zeroes the rest: the lists of single words and of pairs,
-fn wipe_lists(
-    ops: &mut [u64],
-    spans: &mut [u32],
-    globals: &mut [u64],
-    builtins: &mut [u32],
-    u: Used,
-)
-    ensures { λ _. ⌜ (now (ops .exit) ≡ zeroFrom (now (ops .entry)) (u .ops)) × (now (spans .exit) ≡ zeroFrom (now (spans .entry)) (u .ops)) × (now (globals .exit) ≡ zeroFrom (now (globals .entry)) (globalWords u)) × (now (builtins .exit) ≡ zeroFrom (now (builtins .entry)) (u .builtins)) ⌝ }
-{
-    base::zero64(ops, u.ops);
-    base::zero32(spans, u.ops);
-    wipe64(globals, 2, u.globals);
-    base::zero32(builtins, u.builtins);
-}
-
-// and the tables.
-fn wipe_tables(
-    switches: &mut [u64],
-    targets: &mut [u32],
-    lookups: &mut [u64],
-    values: &mut [u64],
-    u: Used,
-)
-    ensures { λ _. ⌜ (now (switches .exit) ≡ zeroFrom (now (switches .entry)) (switchWords u)) × (now (targets .exit) ≡ zeroFrom (now (targets .entry)) (u .targets)) × (now (lookups .exit) ≡ zeroFrom (now (lookups .entry)) (lookupWords u)) × (now (values .exit) ≡ zeroFrom (now (values .entry)) (valueWords u)) ⌝ }
-{
-    wipe64(switches, 3, u.switches);
-    base::zero32(targets, u.targets);
-    wipe64(lookups, 5, u.lookups);
-    wipe64(values, 2, u.values);
 }
 
 // Any words, any buffers, any used lengths. The places of the values are written to `places`; hints, noted registers and labels are work room.
@@ -300,7 +196,7 @@ pub fn compile(
         listed,
     );
     let grown = f.used;
-    finish_targets(f.number, targets, labels, used.targets, grown.targets);
+    used::finish_targets(f.number, targets, labels, used.targets, grown.targets);
     base::zero32(hints, 0);
     base::zero64(noted, 0);
     base::zero64(labels, 0);
@@ -310,8 +206,8 @@ pub fn compile(
             used: grown,
         };
     }
-    wipe_lists(ops, spans, globals, builtins, used);
-    wipe_tables(switches, targets, lookups, values, used);
+    used::wipe_lists(ops, spans, globals, builtins, used);
+    used::wipe_tables(switches, targets, lookups, values, used);
     base::zero32(places, 0);
     Compiled {
         answer: answer_of(f.number),

@@ -22,7 +22,7 @@ use Rattle.compile.specs.Compile.{envOf}
 use Rattle.demand3.specs.Demand3.{calledOp, CallAt}
 
 -- words that an instruction emits stand from its pc to the next one's
-module _ {n : ℕ} {env : Env} {out : Out} {i pc pc′ : ℕ} (x : InstrAt n env out i pc pc′) (words : List ℕ)
+module _ {n : ℕ} {env : Env} {out : Out} {heads : List ℕ} {i pc pc′ : ℕ} (x : InstrAt n env out heads i pc pc′) (words : List ℕ)
     (is : instrOps n env (x .table) i (x .before) ≡ emitAll words (x .before)) where
   ops-are : instrOps n env (x .table) i (x .before) .ops ≡ x .before .ops ++ words
   ops-are = ap (λ (o : Out). o .ops) is ∙ emitAll-ops words (x .before)
@@ -52,7 +52,8 @@ module _ {n : ℕ} (right : CallsRight n) (ws : List ℕ) (b : Buffers) (u : Use
       (calledOp n ws b u builtin i) (placeAt (assigned n ws .map) v) o)
 
 -- it stands in its block
-pub call-at : {n : ℕ} → CallsRight n → (ws : List ℕ) (b : Buffers) (u : Used) {out : Out} {i pc pc′ : ℕ} (v : ℕ) → InstrAt n (envOf n ws b u) out i pc pc′
+pub call-at : {n : ℕ} → CallsRight n → (ws : List ℕ) (b : Buffers) (u : Used) {out : Out} {heads : List ℕ} {i pc pc′ : ℕ} (v : ℕ)
+    → InstrAt n (envOf n ws b u) out heads i pc pc′
     → destination ws i ≡ suc v → (kind : Kind) → Calls ws i kind → CallAt n ws b u (out .ops) kind i v pc pc′
 call-at {n} right ws b u {i = i} v x dst kind calls =
     let e = call-emits right ws b u i v (x .table) (x .before) dst kind calls in

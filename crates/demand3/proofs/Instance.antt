@@ -1,7 +1,6 @@
 -- Demand 3 of the loop as it is compiled: its call stands at pc 0 and keeps both parameters, the moves of its edge back stand at pc 5 and trade
 -- them, and block 1 comes again.
 use mathlib.Core.Path.{_≡_, refl, sym, ap, _∙_, subst}
-use mathlib.Core.Logic.{⊎-elim}
 use mathlib.Core.Bool.{Bool, true, false}
 use Prim.Native.Nat.{ℕ, zero, suc, _+_, _≤_, _<_}
 use mathlib.Core.List.{List, [], _∷_, _++_}
@@ -10,15 +9,19 @@ use borrow.Author.Tests.{ltb-true, ne-eqb}
 use lib.Dec.{ltb, lit≤}
 use lib.ListN.{length, getD}
 use Rattle.base.specs.Choice.{pick}
+use Rattle.base.specs.Emission.{Out}
 use Rattle.base.specs.Lists.{among}
 use Rattle.base.specs.Masks.{hasBit}
-use Rattle.base.proofs.Numbers.{lt?}
-use Rattle.op.specs.Words.{word, parts}
+use Rattle.place.specs.Places.{slotsFrom}
+use Rattle.op.specs.declared.Op.{Op}
+use Rattle.op.specs.Words.{word}
 use Rattle.op.specs.Ops as op
 use Rattle.machine.specs.Machine.{State, World, runWords}
 use Rattle.machine.specs.Calls.{function, Keeps}
 use Rattle.moves.specs.Moves.{swapRemove, turnOps, turnSources, turnDestinations, turns, moves, moveWords}
 use Rattle.input.specs.Layout.{headField, valueField, blockField, instrField, edgeField, poolAt, listAt}
+use Rattle.input.specs.Records as in-words
+use Rattle.input.specs.Records.{termKind}
 use Rattle.input.proofs.Chain.{both-parts}
 use Rattle.assign.specs.Walk.{assigned}
 use Rattle.sharing.proofs.Example.{loop}
@@ -26,14 +29,16 @@ use Rattle.ready.specs.Ready.{Live, EdgeOf}
 use Rattle.lower.specs.Operands.{destReg}
 use Rattle.edges.specs.Edges.{edgeSources, edgeDestinations}
 use Rattle.calls.specs.Calls.{maskedFrom, calledAs}
+use Rattle.instrs.specs.Instrs.{Env}
+use Rattle.body.specs.Body.{termPlace}
 use Rattle.calls_proof.specs.CallsRight.{beforeCall, afterCall}
 use Rattle.edges_proof.specs.EdgesRight.{edgeWords, EdgeMoved}
 use Rattle.calls_kept.specs.CallsKept.{callsFunction, opsBefore, opsAfter}
 use Rattle.calls_kept.proofs.Instance.{call-row, no-arguments, first-in-use, second-in-use}
 use Rattle.calls_kept.proofs.Shown.{Walked, Emits, Shown, shown, keeps-so, ops-before, ops-after}
-use Rattle.layout.specs.Layout.{Stands, goesOn, GoesTo, blockPc, EdgeAt, BranchAt, BlockAt}
+use Rattle.layout.specs.Layout.{Stands, GoesTo, blockPc, EdgeAt, Fetched, there, loaded, BranchOp, onFalse, onOther, onUnequal, BranchAt, BlockAt}
 use Rattle.compile.specs.Compile.{envOf, finalOut, compiled}
-use Rattle.demand3.specs.Demand3.{opsOf, slotsOf, headsOf, placesLeft, savedBy, calledOp, CallAt, Right, Words}
+use Rattle.demand3.specs.Demand3.{opsOf, slotsOf, headsOf, lookupsOf, placesLeft, savedBy, calledOp, CallAt, Right, Words}
 use Rattle.demand3.proofs.Theorem.{demand-3}
 use Rattle.demand3.proofs.Computed.{room, empty, map, loop-places, trade, ops, final-ops, first-pc, loop-done}
 
@@ -64,7 +69,7 @@ live : Live loop 1
 unfolding headField blockField
 live = record { there = lit≤ tt; is = refl }
 
-block : BlockAt 32 (envOf 32 loop room empty) (savedBy 32 loop) (finalOut 32 loop room empty) (slotsOf 32 loop room empty) (headsOf 32 loop room empty) 1
+block : BlockAt 32 (envOf 32 loop room empty) (savedBy 32 loop) (finalOut 32 loop room empty) (slotsOf 32 loop room empty) (headsOf 32 loop room empty) (lookupsOf 32 loop room empty) 1
 block = right .blocks 1 live
 
 -- ---- the edge back, edge 2
@@ -118,21 +123,24 @@ branch : BranchAt 32 (envOf 32 loop room empty) (finalOut 32 loop room empty) 1 
 unfolding headField blockField
 branch = block .term .branch (lit≤ tt) (lit≤ tt)
 
--- the jump stands there
-jump-stops : goesOn (getD ops 4 0) ≡ false
-unfolding word parts
-jump-stops = refl
+-- it reads register 2, so nothing is fetched, and the jump stands there
+none-fetched : {n : ℕ} {out : Out} {p reg pc at : ℕ} → Fetched n out p reg pc at → p < slotsFrom → at ≡ pc
+none-fetched (there h e) g = refl
+none-fetched (loaded h s e) g = absurd (omega arith)
+
+condition-there : {n : ℕ} {env : Env} {out : Out} {b pc at : ℕ} {jump : Op} → BranchOp n env out b pc at jump → termKind (env .ws) b ≡ in-words.branch
+    → termPlace (env .ws) (env .places) b 0 < slotsFrom → at ≡ pc
+condition-there (onFalse c k f) e h = none-fetched f h
+condition-there (onOther l k f) e h = absurd (omega arith)
+condition-there (onUnequal l r mid k f g d) e h = absurd (omega arith)
+
+condition : termPlace loop (assigned 32 loop .map) 1 0 ≡ 2
+unfolding headField blockField poolAt listAt
+condition = ap (λ (m : List ℕ). termPlace loop m 1 0) (loop-places .0)
 
 branch-at : branch .at ≡ 4
-branch-at =
-    ⊎-elim
-    (λ (q : 4 < branch .at).
-    let g : goesOn (getD (finalOut 32 loop room empty .ops) 4 0) ≡ true = branch .jumps .straight 4 (omega (arith, ends)) q in
-    let f : goesOn (getD (finalOut 32 loop room empty .ops) 4 0) ≡ false = ap (λ (l : List ℕ). goesOn (getD l 4 0)) final-ops ∙ jump-stops in
-    let z : _≡_ {A = ℕ} 0 1 = cc in
-    absurd (omega arith))
-    (λ (q : branch .at ≤ 4). omega (arith, ends, branch .jumps .behind))
-    (lt? 4 (branch .at))
+unfolding headField blockField
+branch-at = condition-there (branch .by) refl (omega (arith, condition)) ∙ ends
 
 yes : EdgeAt 32 (envOf 32 loop room empty) (finalOut 32 loop room empty) 2 5
 unfolding headField blockField

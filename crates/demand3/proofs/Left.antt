@@ -1,20 +1,24 @@
--- What a Done leaves in the buffers: the ops, the places, the slots of the switch tables, resolved, their heads, the function table, the builtins.
+-- What a Done leaves in the buffers: the ops, the places, the slots of the switch tables, resolved, their heads and those of the lookup tables, the
+-- function table, the builtins.
 use mathlib.Core.Path.{_≡_, refl, sym, ap, _∙_}
 use Prim.Native.Nat.{ℕ, zero, suc, _+_, _*_, _-_, _≤_, _<_}
 use mathlib.Core.List.{List, [], _∷_, _++_}
 use native.Mathlib.Nat.{not-suc-le-zero, le-of-suc-le-suc}
 use native.Mathlib.Omega.{arith}
 use lib.ListN.{length, getD, take, drop, length-append, length-take, length-drop, length-map}
-use lib.Seq.{sets, take-at, getD-append-add, getD-drop, length-take-le}
+use lib.Seq.{sets, take-at, getD-append-add, getD-set-same, getD-drop, length-take-le}
 use Rattle.base.proofs.Lists.{sets-front}
-use Rattle.input.specs.Layout.{values}
+use Rattle.program.specs.Functions.{bytecode, functionAt}
+use Rattle.input.specs.Layout.{functionId, values}
 use Rattle.placing.proofs.Low.{map-length}
 use Rattle.layout.proofs.Heads.{after-thirds}
+use Rattle.layout.proofs.Lookups.{after-fifths}
 use Rattle.lists.specs.declared.Used.{Used}
 use Rattle.assemble.proofs.Whole.{room-few}
 use Rattle.compile.specs.Program.{Buffers, Outcome}
-use Rattle.compile.specs.Compile.{placesOf, newLists, newFunctions, newTargets, labelsAt, finalOut, doneOf, compiled}
-use Rattle.demand3.specs.Demand3.{opsOf, slotsOf, headsOf, builtinsOf, placesLeft}
+use Rattle.used.specs.Used.{labelsAt}
+use Rattle.compile.specs.Compile.{placesOf, newLists, newFunctions, newTargets, finalOut, doneOf, compiled}
+use Rattle.demand3.specs.Demand3.{opsOf, slotsOf, headsOf, lookupsOf, builtinsOf, placesLeft}
 use Rattle.demand3.proofs.Passed.{passed, done-is}
 
 -- a buffer starts with what was put there
@@ -75,9 +79,25 @@ module _ (n : ℕ) (ws : List ℕ) (b : Buffers) (u : Used) (done : compiled n w
       ∙ ap (λ (k : ℕ). take k (sets (b .switches) 0 (newLists n ws b u .switches))) e
       ∙ front-is (b .switches) (newLists n ws b u .switches) (length (newLists n ws b u .switches)) refl (passed n ws b u done .switches-room)
 
+  pub lookups-long : length (take (5 * u .lookups) (b .lookups)) ≡ 5 * u .lookups
+  lookups-long = length-take-le (5 * u .lookups) (b .lookups) (passed n ws b u done .lookups-used)
+
+  pub lookups-left : lookupsOf n ws b u ≡ newLists n ws b u .lookups
+  unfolding doneOf
+  lookups-left =
+      let e = after-fifths ws (u .values) (u .lookups) (take (5 * u .lookups) (b .lookups)) lookups-long in
+      ap (λ (o : Outcome). take (5 * o .used .lookups) (o .buffers .lookups)) (done-is n ws b u done)
+      ∙ ap (λ (k : ℕ). take k (sets (b .lookups) 0 (newLists n ws b u .lookups))) e
+      ∙ front-is (b .lookups) (newLists n ws b u .lookups) (length (newLists n ws b u .lookups)) refl (passed n ws b u done .lookups-room)
+
   pub functions-left : compiled n ws b u .buffers .functions ≡ newFunctions ws b u
   unfolding doneOf
   functions-left = ap (λ (o : Outcome). o .buffers .functions) (done-is n ws b u done)
+
+  pub entry-left : getD (compiled n ws b u .buffers .functions) (functionId ws) 0 ≡ functionAt bytecode (u .ops)
+  entry-left =
+      ap (λ (l : List ℕ). getD l (functionId ws) 0) functions-left
+      ∙ getD-set-same (b .functions) (functionId ws) (functionAt bytecode (u .ops)) 0 (passed n ws b u done .entry-room)
 
   pub builtins-left : builtinsOf n ws b u ≡ newLists n ws b u .builtins
   unfolding doneOf

@@ -9,32 +9,35 @@ use lib.Seq.{length-take-le}
 use Rattle.base.specs.Emission.{Out}
 use Rattle.machine.specs.Machine.{State, World, runWords}
 use Rattle.machine.specs.Calls.{Kind}
-use Rattle.input.specs.Layout.{headField, functionSpan, blocks, edges, poolFrom}
+use Rattle.input.specs.Layout.{headField, functionId, functionSpan, blocks, edges, poolFrom}
 use Rattle.input.specs.Records.{firstInstr, instrCount, destination}
 use Rattle.judge.specs.declared.Verdict.the-variants.{Fit}
 use Rattle.judge.proofs.Verdicts.{AllPass, fit-given}
-use Rattle.assign.specs.Walk.{placeWord, slotsMade}
+use Rattle.assign.specs.Walk.{assigned, placeWord, slotsMade, topUsed}
 use Rattle.sharing.specs.Sharing.{Given, Held, inRegister, inSlot, NoSharing}
 use Rattle.sharing.proofs.Theorem.{sharing}
 use Rattle.ready.specs.Ready.{Live, InstrOf, EdgeOf, Ready}
 use Rattle.ready.proofs.Given.{ready}
+use Rattle.placing.proofs.Tried.{used-most}
 use Rattle.body.specs.Body.{bodyOps}
-use Rattle.frame.specs.Frames.{framed}
+use Rattle.frame.specs.Frames.{savedUpTo, framed}
+use Rattle.frame.specs.FramesKept.{FrameKept}
+use Rattle.frame.proofs.Restoring.{frames-kept}
 use Rattle.edges_proof.specs.EdgesRight.{edgeWords, EdgeMoved}
 use Rattle.edges_proof.proofs.Theorem.{edges-theorem}
 use Rattle.calls_proof.proofs.Theorem.{calls-theorem}
 use Rattle.calls_kept.specs.CallsKept.{Calls}
 use Rattle.calls_kept.proofs.Theorem.{calls-kept}
-use Rattle.layout.specs.Layout.{BlockAt, Built}
-use Rattle.layout.proofs.Theorem.{layout}
+use Rattle.layout.specs.Layout.{BlockAt, EntryAt, Built}
+use Rattle.layout.proofs.Theorem.{layout, entry}
 use Rattle.lists.specs.declared.Used.{Used}
 use Rattle.assemble.specs.Assemble.{functionOut}
 use Rattle.assemble.proofs.Whole.{room-few}
 use Rattle.compile.specs.Program.{Buffers}
 use Rattle.compile.specs.Compile.{newLists, newTargets, envOf, startOf, finalOut, compiled}
-use Rattle.demand3.specs.Demand3.{opsOf, slotsOf, headsOf, placesLeft, savedBy, CallAt, Right, Words, Demand3}
+use Rattle.demand3.specs.Demand3.{opsOf, slotsOf, headsOf, lookupsOf, placesLeft, savedBy, CallAt, Right, Words, Demand3}
 use Rattle.demand3.proofs.Passed.{Passed, passed}
-use Rattle.demand3.proofs.Left.{resolved-at, ops-left, places-left, slots-left, heads-long, heads-left, functions-left, builtins-left}
+use Rattle.demand3.proofs.Left.{resolved-at, ops-left, places-left, slots-left, heads-long, heads-left, lookups-long, lookups-left, functions-left, entry-left, builtins-left}
 use Rattle.demand3.proofs.CallAt.{call-at}
 use Rattle.demand3.proofs.Tails.{tail-right}
 
@@ -79,6 +82,7 @@ module _ (n : ℕ) (lo : 22 ≤ n) (hi : n ≤ 64) (ws : List ℕ) (words : Word
   built : Built (savedBy n ws) (functionSpan ws) n (envOf n ws b u) (u .switches) (u .lookups) (startOf ws b u)
   built =
       record {
+        registers-many = lo;
         registers-few = hi;
         words = all .words;
         shape = all .shape;
@@ -93,12 +97,22 @@ module _ (n : ℕ) (lo : 22 ≤ n) (hi : n ≤ 64) (ws : List ℕ) (words : Word
       resolved-at (finalOut n ws b u .labels) (newLists n ws b u .targets) (u .targets) t h k
       ∙ ap (λ (o : Out). getD (o .labels) (getD (newLists n ws b u .targets) t 0) 0) final-is
 
-  block-of : (k : ℕ) → Live ws k → BlockAt n (envOf n ws b u) (savedBy n ws) (finalOut n ws b u) (slotsOf n ws b u) (headsOf n ws b u) k
+  block-of : (k : ℕ) → Live ws k → BlockAt n (envOf n ws b u) (savedBy n ws) (finalOut n ws b u) (slotsOf n ws b u) (headsOf n ws b u) (lookupsOf n ws b u) k
   block-of k live =
-      rw (final-is, slots-left n ws b u done, heads-left n ws b u done)
-      (layout (savedBy n ws) (functionSpan ws) n (envOf n ws b u) (u .switches) (u .lookups) (u .targets) (startOf ws b u) (take (u .targets) (b .targets))
-      (newTargets n ws b u) (take (3 * u .switches) (b .switches)) (newLists n ws b u .switches) built
-      (length-take-le (u .targets) (b .targets) (p .targets-used)) resolves (heads-long n ws b u done) refl k live)
+      rw (final-is, slots-left n ws b u done, heads-left n ws b u done, lookups-left n ws b u done)
+      (layout (savedBy n ws) (functionSpan ws) n (envOf n ws b u) (u .switches) (u .lookups) (u .targets) (u .values) (startOf ws b u) (take (u .targets) (b .targets))
+      (newTargets n ws b u) (take (3 * u .switches) (b .switches)) (newLists n ws b u .switches) (take (5 * u .lookups) (b .lookups)) (newLists n ws b u .lookups) built
+      (length-take-le (u .targets) (b .targets) (p .targets-used)) resolves (heads-long n ws b u done) refl (lookups-long n ws b u done) refl k live)
+
+  -- ---- the entry and the frame
+  entry-at : EntryAt (savedBy n ws) (finalOut n ws b u) (u .ops)
+  entry-at =
+      let long : length (startOf ws b u .ops) ≡ u .ops = length-take-le (u .ops) (b .ops) (p .ops-used) in
+      rw final-is (rw long at (entry (savedBy n ws) (functionSpan ws) n (envOf n ws b u) (u .switches) (u .lookups) (startOf ws b u) built))
+
+  frame-kept : (w : World) (st : State) → FrameKept n (savedUpTo (functionId ws) (topUsed n ws)) (slotsMade n ws) (savedBy n ws) w st
+  frame-kept w st =
+      frames-kept n (functionId ws) (topUsed n ws) (slotsMade n ws) lo hi (used-most (getD (assigned n ws .alloc .used) 0 0) 64) w st
 
   -- ---- calls
   instr-of : (k j : ℕ) → Live ws k → j < instrCount ws k → InstrOf ws k (firstInstr ws k + j)
@@ -125,6 +139,9 @@ module _ (n : ℕ) (lo : 22 ≤ n) (hi : n ≤ 64) (ws : List ℕ) (words : Word
         functions-are = functions-left n ws b u done;
         builtins-are = builtins-left n ws b u done;
         blocks = block-of;
+        named = entry-left n ws b u done;
+        entry = entry-at;
+        frame = frame-kept;
         edges = edge-of;
         calls = call-of;
         kept = λ k j v r l h at dst kind calls w st st″ high keeps.

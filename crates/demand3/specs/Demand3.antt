@@ -4,11 +4,11 @@ use mathlib.Core.Logic.{_≢_}
 use Prim.Native.Nat.{ℕ, suc, _+_, _*_, _-_, _≤_, _<_}
 use mathlib.Core.List.{List, _∷_, _++_}
 use lib.ListN.{length, getD, take}
-use Rattle.base.specs.Emission.{Out}
 use Rattle.op.specs.Words.{word}
 use Rattle.op.specs.Ops as op
 use Rattle.machine.specs.Machine.{State, World, runWords, holds}
 use Rattle.machine.specs.Calls.{Kind, function, builtin, Keeps}
+use Rattle.program.specs.Functions.{bytecode, functionAt}
 use Rattle.input.specs.Layout.{functionId, values}
 use Rattle.input.specs.Records.{firstInstr, instrCount, destination, operandsOf, instrX, termKind, termOperands, tailCall}
 use Rattle.rows.specs.Rows.{instr, InUse}
@@ -18,17 +18,18 @@ use Rattle.ready.specs.Ready.{Live, EdgeOf}
 use Rattle.lower.specs.Operands.{placeAt}
 use Rattle.calls.specs.Calls.{calledAs}
 use Rattle.tables.specs.Interning.{builtinOf}
-use Rattle.instrs.specs.Instrs.{Env}
-use Rattle.frame.specs.Frames.{frameRegs}
+use Rattle.frame.specs.Frames.{savedUpTo, frameRegs}
+use Rattle.frame.specs.FramesKept.{FrameKept}
 use Rattle.edges_proof.specs.EdgesRight.{edgeWords, EdgeMoved}
 use Rattle.calls_proof.specs.CallsRight.{shuffleWords}
 use Rattle.calls_kept.specs.CallsKept.{Calls, opsBefore, opsAfter, CallKept}
-use Rattle.layout.specs.Layout.{Stands, BlockAt}
+use Rattle.layout.specs.Layout.{Stands, BlockAt, EntryAt}
 use Rattle.lists.specs.declared.Used.{Used}
 use Rattle.compile.specs.Program.{Buffers}
 use Rattle.compile.specs.Compile.{placesOf, newLists, newFunctions, envOf, finalOut, compiled}
 
--- what compiling leaves: the ops up to the new used length, the slots and the heads of the switch tables, the builtins, the places of the values
+-- what compiling leaves: the ops up to the new used length, the slots and the heads of the switch tables, the heads of the lookup tables, the
+-- builtins, the places of the values
 abbrev pub opsOf : ℕ → List ℕ → Buffers → Used → List ℕ
 opsOf n ws b u = take (compiled n ws b u .used .ops) (compiled n ws b u .buffers .ops)
 
@@ -37,6 +38,9 @@ slotsOf n ws b u = take (compiled n ws b u .used .targets) (compiled n ws b u .b
 
 abbrev pub headsOf : ℕ → List ℕ → Buffers → Used → List ℕ
 headsOf n ws b u = take (3 * compiled n ws b u .used .switches) (compiled n ws b u .buffers .switches)
+
+abbrev pub lookupsOf : ℕ → List ℕ → Buffers → Used → List ℕ
+lookupsOf n ws b u = take (5 * compiled n ws b u .used .lookups) (compiled n ws b u .buffers .lookups)
 
 abbrev pub builtinsOf : ℕ → List ℕ → Buffers → Used → List ℕ
 builtinsOf n ws b u = take (compiled n ws b u .used .builtins) (compiled n ws b u .buffers .builtins)
@@ -66,7 +70,13 @@ pub record Right (n : ℕ) (ws : List ℕ) (b : Buffers) (u : Used) : Type 0 whe
   pub places-are : placesLeft n ws b u ≡ placesOf n ws
   pub functions-are : compiled n ws b u .buffers .functions ≡ newFunctions ws b u
   pub builtins-are : builtinsOf n ws b u ≡ newLists n ws b u .builtins
-  pub blocks : (k : ℕ) → Live ws k → BlockAt n (envOf n ws b u) (savedBy n ws) (finalOut n ws b u) (slotsOf n ws b u) (headsOf n ws b u) k
+  pub blocks : (k : ℕ) → Live ws k
+      → BlockAt n (envOf n ws b u) (savedBy n ws) (finalOut n ws b u) (slotsOf n ws b u) (headsOf n ws b u) (lookupsOf n ws b u) k
+  -- Entry: the function's word in the table names the pc where its prologue stands, and block 0 starts right behind it.
+  pub named : getD (compiled n ws b u .buffers .functions) (functionId ws) 0 ≡ functionAt bytecode (u .ops)
+  pub entry : EntryAt (savedBy n ws) (finalOut n ws b u) (u .ops)
+  -- Frame: the prologue puts the slots on the stack; if the body keeps what lies below them, the epilogue restores the saved registers and the stack.
+  pub frame : (w : World) (st : State) → FrameKept n (savedUpTo (functionId ws) (topUsed n ws)) (slotsMade n ws) (savedBy n ws) w st
   -- Edges: from any state with at least the function's slots on the stack, each read parameter's place gets what its argument's place held, and
   -- nothing else changes but SCRATCH and TMP.
   pub edges : (k e : ℕ) → EdgeOf ws k e → (w : World) (st : State) → slotsMade n ws ≤ length (st .stack)

@@ -25,6 +25,22 @@ pub enum Verdict {
     BadKey,
 }
 
+// Document 01's number.
+pub fn number_of(v: Verdict) -> u8
+    ensures { λ r. ⌜ r ≡ verdictNumber v ⌝ }
+{
+    match v {
+        Verdict::Fit => 0,
+        Verdict::BadWord => 1,
+        Verdict::TooMany => 2,
+        Verdict::BadShape => 3,
+        Verdict::DoubleDef => 4,
+        Verdict::BadInterval => 5,
+        Verdict::UnknownFunc => 6,
+        Verdict::BadKey => 7,
+    }
+}
+
 // The refusals that one pass over the rows answers, by their numbers.
 const BAD_SHAPE: u8 = 3;
 

@@ -16,7 +16,7 @@ use Rattle.input.specs.Records.{isLive, firstInstr, instrCount, termKind, first
 use Rattle.ready.specs.Ready.{Ready, Live}
 use Rattle.edges.specs.Edges.{padCount}
 use Rattle.body.specs.declared.Tally.{Tally}
-use Rattle.instrs.specs.Instrs.{Env, instrsOps}
+use Rattle.instrs.specs.Instrs.{Env, lookupsIn, instrsOps}
 use Rattle.body.specs.Body.{isSwitch, nextLive, tallied, blockOps, blocksOps, endsFlow, rootRet}
 use lib.Dec.{eqb}
 use Rattle.layout.proofs.Adding.{Adds, Any, stays, adds-none, adds-then, adds-any, adds-fewer, adds-emit, adds-bind, adds-few, bind-ops, bound-at}
@@ -61,6 +61,10 @@ pub tallied-switches : (ws places : List ℕ) (b : ℕ) (t : Tally) → tallied 
 unfolding tallied
 tallied-switches ws places b t = refl
 
+pub tallied-lookups : (ws places : List ℕ) (b : ℕ) (t : Tally) → tallied ws places b t .lookups ≡ t .lookups + lookupsIn ws (firstInstr ws b) (instrCount ws b)
+unfolding tallied
+tallied-lookups ws places b t = refl
+
 module _ (n : ℕ) (env : Env) (known : (b : ℕ) → b < blocks (env .ws) → termKind (env .ws) b < 8) where
   -- from a block's label on
   pub block-rest : {P : ℕ → Type 0} (t : Tally) (b k : ℕ) (q : Out) → b < blocks (env .ws) → ((l : ℕ) → P l → l ≢ blocks (env .ws) + b)
@@ -99,7 +103,7 @@ module _ (n : ℕ) (env : Env) (known : (b : ℕ) → b < blocks (env .ws) → t
     unfolding blocksOps
     blocks-dead h = rw h
 
-    next-live : isLive (env .ws) b ≡ true → nextLive (env .ws) b (suc k) ≡ b
+    pub next-live : isLive (env .ws) b ≡ true → nextLive (env .ws) b (suc k) ≡ b
     unfolding nextLive
     next-live h = rw h
 

@@ -6,12 +6,9 @@ use Prim.Native.Nat.{ℕ, _+_, _-_, _≤_, _<_}
 use mathlib.Core.List.{List}
 use native.Mathlib.Nat.{add-zero}
 use native.Mathlib.Omega.{arith}
-use borrow.Author.Tests.{ltb-true}
-use lib.Dec.{ltb}
 use lib.ListN.{length, getD}
 use Rattle.base.specs.Emission.{Out, emit, bind}
-use Rattle.base.proofs.Numbers.{both, same?, pick-both, pick-case}
-use Rattle.place.specs.Places.{slotsFrom}
+use Rattle.base.proofs.Numbers.{both, same?}
 use Rattle.op.specs.declared.Op.{Op}
 use Rattle.op.specs.Words.{word}
 use Rattle.op.specs.Ops as op
@@ -19,22 +16,16 @@ use Rattle.op.specs.Targets.{aimed}
 use Rattle.input.specs.Layout.{blocks}
 use Rattle.input.specs.Records as in-words
 use Rattle.input.specs.Records.{termKind, firstEdge, termY, edgeTarget}
-use Rattle.lower.specs.Operands.{loadsScratch, spare, operandReg, fetched}
+use Rattle.lower.specs.Operands.{operandReg, fetched}
 use Rattle.edges.specs.Edges.{hasMoves, nowhere, edge, jumpAt, branch}
 use Rattle.instrs.specs.Instrs.{Env}
 use Rattle.body.specs.Body.{termPlace, branchOps}
 use Rattle.layout.specs.Layout.{EdgeAt, blockPc, BranchOp, onFalse, onOther, onUnequal, BranchAt}
-use Rattle.layout.proofs.Adding.{Adds, Any, Nil, Goes, stays, adds-then, adds-any, adds-nil, adds-emit, adds-bind, adds-few, emit-long, bind-ops, bound-at, between-at}
+use Rattle.layout.proofs.Adding.{Adds, Any, Nil, stays, adds-then, adds-any, adds-nil, adds-emit, adds-bind, adds-few, emit-long, bind-ops, bound-at, between-at}
 use Rattle.layout.proofs.Instrs.{by-fetch}
-use Rattle.layout.proofs.Finish.{Finished, JumpOp, jump-there, run-straight}
+use Rattle.layout.proofs.Finish.{Finished, JumpOp, jump-there}
+use Rattle.layout.proofs.Fetches.{operand-small, slots-apart, fetch-at}
 use Rattle.layout.proofs.Edges.{edge-adds, edge-at, edge-bare}
-
--- the register of an operand is a byte
-operand-small : (n p last : ℕ) → n ≤ 256 → operandReg n p last < 256
-unfolding operandReg spare
-operand-small n p last h =
-    pick-case (λ (x : ℕ). x < 256) (ltb p slotsFrom) _ _ (λ e. omega (arith, ltb-true p slotsFrom e))
-    (λ _. pick-both (λ (x : ℕ). x < 256) (loadsScratch n last) _ _ (omega arith) (omega arith))
 
 module _ (n : ℕ) (ws places : List ℕ) (jump : Op) (label next e : ℕ) (q : Out) where
   branch-moves : hasMoves ws places e ≡ true
@@ -179,28 +170,28 @@ module _ (n : ℕ) (ws places : List ℕ) (next b : ℕ) (q : Out) where
       (same? (termKind ws b) in-words.branchCmpImm))
       (same? (termKind ws b) in-words.branch)
 
-module _ (n : ℕ) (env : Env) {from : ℕ} {B F : Out} (fin : Finished from B F) (regs-few : n ≤ 256) {P : ℕ → Type 0} (next b : ℕ) (q : Out)
+module _ (n : ℕ) (env : Env) {from : ℕ} {B F : Out} (fin : Finished from B F) (regs-few : n ≤ 256) (regs-two : 2 ≤ n) {P : ℕ → Type 0} (next b : ℕ) (q : Out)
     (h : from ≤ length (q .ops)) (y : Adds P (branchOps n (env .ws) (env .places) next b q) B) (p : P (blocks (env .ws) + b))
     (room : blocks (env .ws) + b < length (B .labels)) (few : blocks (env .ws) ≤ 1024) (there : b < blocks (env .ws))
     (no-in : edgeTarget (env .ws) (firstEdge (env .ws) b) < blocks (env .ws)) (yes-in : edgeTarget (env .ws) (firstEdge (env .ws) b + 1) < blocks (env .ws))
     (follows : next < blocks (env .ws) → length (branchOps n (env .ws) (env .places) next b q .ops) ≡ blockPc F next) where
-  -- behind straight ops that fetch the operands
-  from-op : (jump : Op) → JumpOp jump → BranchOp (env .ws) b jump → (q′ : Out) → Goes q q′
+  -- behind the fetches of its operands
+  from-op : (jump : Op) → JumpOp jump → (q′ : Out) → (Adds Nil q′ B → BranchOp n env F b (length (q .ops)) (length (q′ .ops)) jump)
+      → length (q .ops) ≤ length (q′ .ops)
       → branchOps n (env .ws) (env .places) next b q ≡ branch n (env .ws) (env .places) jump (blocks (env .ws) + b) next (firstEdge (env .ws) b) q′
       → BranchAt n env F b (length (q .ops))
-  from-op jump is by q′ g same =
+  from-op jump is q′ by more same =
       let y′ : Adds P (branch n (env .ws) (env .places) jump (blocks (env .ws) + b) next (firstEdge (env .ws) b) q′) B = rw same at y in
       let z : Adds Nil q′ B =
       adds-then (branch-adds n (env .ws) (env .places) jump (blocks (env .ws) + b) next (firstEdge (env .ws) b) q′ {P = Nil} (λ l x. absurd (omega arith))) (adds-nil y′) in
-      let more : length (q .ops) ≤ length (q′ .ops) = adds-few (g .adds) in
       let r = branched n env fin jump is (blocks (env .ws) + b) next (firstEdge (env .ws) b) q′ (omega arith) y′ p room (omega arith) few no-in yes-in
       (λ (k : next < blocks (env .ws)). ap (λ (x : Out). length (x .ops)) (sym same) ∙ follows k) in
       record {
         jump = jump;
-        by = by;
         at = length (q′ .ops);
+        by = by z;
         no-pc = r .no-pc;
-        jumps = record { behind = more; straight = run-straight fin (g .adds) z h (g .all); is = r .jumps };
+        jumps = r .jumps;
         no = r .no;
         yes = r .yes;
       }
@@ -208,23 +199,30 @@ module _ (n : ℕ) (env : Env) {from : ℕ} {B F : Out} (fin : Finished from B F
   pub branch-at : in-words.branch ≤ termKind (env .ws) b → termKind (env .ws) b ≤ in-words.branchCmp → BranchAt n env F b (length (q .ops))
   branch-at lo hi =
       let x : ℕ = termPlace (env .ws) (env .places) b 0 in
+      let x′ : ℕ = termPlace (env .ws) (env .places) b 1 in
+      let f : Out = fetched n x q in
+      let f′ : Out = fetched n x′ f in
       let r : ℕ = operandReg n x (q .last) in
-      let r′ : ℕ = operandReg n (termPlace (env .ws) (env .places) b 1) (fetched n x q .last) in
+      let r′ : ℕ = operandReg n x′ (f .last) in
       let s : r < 256 = operand-small n x (q .last) regs-few in
-      let s′ : r′ < 256 = operand-small n (termPlace (env .ws) (env .places) b 1) (fetched n x q .last) regs-few in
+      let s′ : r′ < 256 = operand-small n x′ (f .last) regs-few in
+      let m : length (q .ops) ≤ length (f .ops) = adds-few (by-fetch n x (stays q) .adds) in
+      let m′ : length (f .ops) ≤ length (f′ .ops) = adds-few (by-fetch n x′ (stays f) .adds) in
       ⊎-elim
       (λ (k : termKind (env .ws) b ≡ in-words.branch).
-      from-op (op.jmpF r 0) (record { low = omega arith; high = omega arith; a-fits = s; b-fits = omega arith; c-fits = omega arith }) (onFalse r k)
-      (fetched n x q) (by-fetch n x (stays q)) (kind-false n (env .ws) (env .places) next b q k))
+      from-op (op.jmpF r 0) (record { low = omega arith; high = omega arith; a-fits = s; b-fits = omega arith; c-fits = omega arith }) f
+      (λ z. onFalse r k (fetch-at fin n x q h z)) m (kind-false n (env .ws) (env .places) next b q k))
       (λ (k : termKind (env .ws) b ≢ in-words.branch).
       ⊎-elim
       (λ (k′ : termKind (env .ws) b ≡ in-words.branchCmpImm).
-      from-op (op.jmpNeI r (termY (env .ws) b) 0) (record { low = omega arith; high = omega arith; a-fits = s; b-fits = omega arith; c-fits = omega arith })
-      (onOther r k′) (fetched n x q) (by-fetch n x (stays q)) (kind-other n (env .ws) (env .places) next b q k′))
+      from-op (op.jmpNeI r (termY (env .ws) b) 0) (record { low = omega arith; high = omega arith; a-fits = s; b-fits = omega arith; c-fits = omega arith }) f
+      (λ z. onOther r k′ (fetch-at fin n x q h z)) m (kind-other n (env .ws) (env .places) next b q k′))
       (λ (k′ : termKind (env .ws) b ≢ in-words.branchCmpImm).
       let k″ : termKind (env .ws) b ≡ in-words.branchCmp = omega (arith, k, k′) in
-      from-op (op.jmpSNe r r′ 0) (record { low = omega arith; high = omega arith; a-fits = s; b-fits = s′; c-fits = omega arith })
-      (onUnequal r r′ k″) (fetched n (termPlace (env .ws) (env .places) b 1) (fetched n x q))
-      (by-fetch n (termPlace (env .ws) (env .places) b 1) (by-fetch n x (stays q))) (kind-unequal n (env .ws) (env .places) next b q k″))
+      from-op (op.jmpSNe r r′ 0) (record { low = omega arith; high = omega arith; a-fits = s; b-fits = s′; c-fits = omega arith }) f′
+      (λ z.
+      onUnequal r r′ (length (f .ops)) k″ (fetch-at fin n x q h (adds-then (adds-any (by-fetch n x′ (stays f) .adds)) z))
+      (fetch-at fin n x′ f (omega arith) z) (slots-apart n regs-few regs-two x x′ q))
+      (omega arith) (kind-unequal n (env .ws) (env .places) next b q k″))
       (same? (termKind (env .ws) b) in-words.branchCmpImm))
       (same? (termKind (env .ws) b) in-words.branch)

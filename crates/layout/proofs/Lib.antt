@@ -3,11 +3,13 @@ pub mod Adding
 pub mod Instrs
 pub mod Finish
 pub mod Leaving
+pub mod Fetches
 pub mod Edges
 pub mod Branches
 pub mod Pads
 pub mod Slots
 pub mod Heads
+pub mod Lookups
 pub mod Terms
 pub mod Blocks
 pub mod Standing

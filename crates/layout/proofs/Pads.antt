@@ -20,10 +20,11 @@ use Rattle.lower.specs.Operands.{operandReg, fetched}
 use Rattle.edges.specs.Edges.{hasMoves, nowhere, edge, padCount, pads, switchEdges}
 use Rattle.instrs.specs.Instrs.{Env}
 use Rattle.body.specs.Body.{termPlace, switchOps}
-use Rattle.layout.specs.Layout.{EdgeAt, blockPc, Behind}
-use Rattle.layout.proofs.Adding.{Adds, Any, Nil, Goes, stays, adds-none, adds-then, adds-any, adds-nil, adds-fewer, adds-emit, adds-bind, adds-few, emit-long, bind-ops, bound-at, between-at}
+use Rattle.layout.specs.Layout.{EdgeAt, blockPc, Fetched}
+use Rattle.layout.proofs.Adding.{Adds, Any, Nil, stays, adds-none, adds-then, adds-any, adds-nil, adds-fewer, adds-emit, adds-bind, adds-few, emit-long, bind-ops, bound-at, between-at}
 use Rattle.layout.proofs.Instrs.{by-fetch}
-use Rattle.layout.proofs.Finish.{Finished, switch-there, run-straight}
+use Rattle.layout.proofs.Finish.{Finished, switch-there}
+use Rattle.layout.proofs.Fetches.{fetch-at}
 use Rattle.layout.proofs.Edges.{edge-adds, edge-at, edge-two}
 
 -- ---- how many pads there are: one case and the rest
@@ -254,14 +255,8 @@ module _ (n : ℕ) (env : Env) {from : ℕ} {B F : Out} (fin : Finished from B F
   y1 : Adds Nil r1 B
   y1 = adds-then (adds-any (edge-adds n (env .ws) (env .places) (first + count) after′ r1)) y2
 
-  y0 : Adds Nil r0 B
-  y0 = adds-then (adds-any (adds-emit r0 w)) y1
-
-  g : Goes q r0
-  g = by-fetch n x (stays q)
-
   long0 : length (q .ops) ≤ length (r0 .ops)
-  long0 = adds-few (g .adds)
+  long0 = adds-few (by-fetch n x (stays q) .adds)
 
   long1 : length (r1 .ops) ≡ length (r0 .ops) + 1
   long1 = emit-long w r0
@@ -269,18 +264,18 @@ module _ (n : ℕ) (env : Env) {from : ℕ} {B F : Out} (fin : Finished from B F
   long2 : length (r1 .ops) ≤ length (r2 .ops)
   long2 = adds-few (edge-adds n (env .ws) (env .places) (first + count) after′ r1)
 
-  pub switch-op : Behind F (word (op.switch (operandReg n (termPlace (env .ws) (env .places) b 0) (q .last)) table)) (length (q .ops))
+  pub switch-fetch : Fetched n F (termPlace (env .ws) (env .places) b 0) (operandReg n (termPlace (env .ws) (env .places) b 0) (q .last)) (length (q .ops))
       (length (fetched n (termPlace (env .ws) (env .places) b 0) q .ops))
+  switch-fetch = fetch-at fin n x q h (adds-then (adds-any (adds-emit r0 w)) y1)
+
+  pub switch-op : getD (F .ops) (length (fetched n (termPlace (env .ws) (env .places) b 0) q .ops)) 0
+      ≡ word (op.switch (operandReg n (termPlace (env .ws) (env .places) b 0) (q .last)) table)
   unfolding adds-emit
   switch-op =
       let z : length (r0 .ops) + 0 ≡ length (r0 .ops) = add-zero (length (r0 .ops)) in
       let e : Adds Any r0 r1 = adds-emit r0 w in
-      record {
-        behind = long0;
-        straight = run-straight fin (g .adds) y0 h (g .all);
-        is = switch-there fin (length (r0 .ops)) (omega (arith, long0)) (omega (arith, adds-few y1, long1)) (operandReg n x (q .last)) table
-            (rw z at (between-at e y1 0 (omega arith)));
-      }
+      switch-there fin (length (r0 .ops)) (omega (arith, long0)) (omega (arith, adds-few y1, long1)) (operandReg n x (q .last)) table
+      (rw z at (between-at e y1 0 (omega arith)))
 
   -- with pads between, the default can't fall through
   default-follows : edgeTarget (env .ws) (first + count) ≡ after′ → length (r2 .ops) ≡ blockPc F after′

@@ -14,23 +14,23 @@ use Rattle.base.specs.Emission.{Out, atSpan, bind}
 use Rattle.base.proofs.Numbers.{both}
 use Rattle.input.specs.Layout.{blocks}
 use Rattle.input.specs.Records as in-words
-use Rattle.input.specs.Records.{firstInstr, instrCount, instrSpan, termKind, termSpan, termOperands, firstEdge, edgeCount, termX, termY, edgeTarget}
+use Rattle.input.specs.Records.{firstInstr, instrCount, instrKind, instrSpan, termKind, termSpan, termOperands, firstEdge, edgeCount, termX, termY, edgeTarget}
 use Rattle.ready.specs.Ready.{Ready, Live}
 use Rattle.lower.specs.Operands.{operandReg, fetched}
 use Rattle.edges.specs.Edges.{hasMoves, padCount}
-use Rattle.tables.specs.Tables.{caseKeys, slotFor, slotCount, switchHead}
+use Rattle.tables.specs.Tables.{caseKeys, slotFor, slotCount, switchHead, lookupHead, slotsIn}
 use Rattle.body.specs.declared.Tally.{Tally}
 use Rattle.instrs.specs.Instrs.{Env, instrOps, lookupsIn, instrsOps}
 use Rattle.body.specs.Body.{termPlace, switchOps, termOps, nextLive, blockOps}
-use Rattle.layout.specs.Layout.{blockPc, EdgeAt, InstrAt, BranchAt, LastOfKey, SwitchAt, TailAt, BlockAt}
+use Rattle.layout.specs.Layout.{blockPc, EdgeAt, InstrAt, BranchAt, LastOfKey, SwitchAt, TailAt, ReturnAt, BlockAt}
 use Rattle.layout.proofs.Adding.{Adds, Any, Nil, Goes, stays, adds-then, adds-any, adds-nil, adds-fewer, adds-few, bind-ops, span-ops, bound-at}
 use Rattle.layout.proofs.Instrs.{instr-going, instrs-going, instrs-split}
 use Rattle.layout.proofs.Finish.{Finished, run-stands, run-straight}
 use Rattle.layout.proofs.Leaving.{AllLeave}
 use Rattle.layout.proofs.Edges.{edge-at, edge-bare}
 use Rattle.layout.proofs.Branches.{branch-at}
-use Rattle.layout.proofs.Pads.{switch-op, switch-default, switch-pad}
-use Rattle.layout.proofs.Terms.{term-adds, term-jump, term-tail, term-switch, term-branch, tail-at, tail-ends}
+use Rattle.layout.proofs.Pads.{switch-fetch, switch-op, switch-default, switch-pad}
+use Rattle.layout.proofs.Terms.{term-adds, term-return, term-jump, term-tail, term-switch, term-branch, tail-at, tail-ends, return-at}
 use Rattle.layout.proofs.Blocks.{Old, block, no, pad, padsOf, block-rest}
 
 -- the slots of block b's table, from `start` on: the last case with a slot's key has it, else the default's block
@@ -43,14 +43,17 @@ pub record Slotted (env : Env) (F : Out) (targets : List ℕ) (label b start : �
       → ((i : ℕ) → i < termY (env .ws) b → slotFor (env .ws) (caseKeys (env .ws) b) (termX (env .ws) b + i) ≢ s)
       → getD targets (start + s) 0 ≡ blockPc F (edgeTarget (env .ws) (firstEdge (env .ws) b + termY (env .ws) b))
 
-module _ (n : ℕ) (env : Env) (known : (b : ℕ) → b < blocks (env .ws) → termKind (env .ws) b < 8) (regs-few : n ≤ 256) (ready : Ready (env .ws))
-    {regs : List ℕ} {from : ℕ} {B F : Out} (fin : Finished from B F) (exits : AllLeave regs from B F) (targets heads : List ℕ) (t : Tally) (b k : ℕ) (q : Out) (live : Live (env .ws) b) (h : from ≤ length (q .ops))
+module _ (n : ℕ) (env : Env) (known : (b : ℕ) → b < blocks (env .ws) → termKind (env .ws) b < 8) (regs-few : n ≤ 256) (regs-two : 2 ≤ n) (ready : Ready (env .ws))
+    {regs : List ℕ} {from : ℕ} {B F : Out} (fin : Finished from B F) (exits : AllLeave regs from B F) (targets heads lookupHeads : List ℕ) (t : Tally) (b k : ℕ) (q : Out) (live : Live (env .ws) b) (h : from ≤ length (q .ops))
     (y : Adds (Old (blocks (env .ws)) (b + 1) (t .label + padsOf (env .ws) (env .places) b)) (blockOps n env t b k q) B)
     (labelled : 2 * blocks (env .ws) ≤ t .label) (room : 2 * blocks (env .ws) ≤ length (B .labels))
     (pads-room : t .label + padsOf (env .ws) (env .places) b ≤ length (B .labels))
     (follows : nextLive (env .ws) (b + 1) k < blocks (env .ws) → length (blockOps n env t b k q .ops) ≡ blockPc F (nextLive (env .ws) (b + 1) k))
     (start : ℕ) (slotted : termKind (env .ws) b ≡ in-words.switch → Slotted env F targets (t .label) b start)
-    (headed : termKind (env .ws) b ≡ in-words.switch → take 3 (drop (3 * t .switches) heads) ≡ switchHead (env .ws) b start) where
+    (headed : termKind (env .ws) b ≡ in-words.switch → take 3 (drop (3 * t .switches) heads) ≡ switchHead (env .ws) b start) (values : ℕ)
+    (looked : (j : ℕ) → j < instrCount (env .ws) b → instrKind (env .ws) (firstInstr (env .ws) b + j) ≡ in-words.lookup
+    → take 5 (drop (5 * (t .lookups + lookupsIn (env .ws) (firstInstr (env .ws) b) j)) lookupHeads)
+    ≡ lookupHead (env .ws) (firstInstr (env .ws) b + j) (values + slotsIn (env .ws) (firstInstr (env .ws) b) j)) where
   abbrev ws : List ℕ
   ws = env .ws
 
@@ -117,7 +120,7 @@ module _ (n : ℕ) (env : Env) (known : (b : ℕ) → b < blocks (env .ws) → t
       stage-first ∙ sym (bound-at b q refl (omega (arith, live .there)) one) ∙ ap (λ (x : List ℕ). getD x b 0) (sym (fin .labels-same))
 
   -- ---- an instruction
-  instr-at : (j : ℕ) → j < instrCount ws b → InstrAt n env F (firstInstr ws b + j) (length (stage j .ops)) (length (stage (j + 1) .ops))
+  instr-at : (j : ℕ) → j < instrCount ws b → InstrAt n env F lookupHeads (firstInstr ws b + j) (length (stage j .ops)) (length (stage (j + 1) .ops))
   unfolding instrsOps
   instr-at j g =
       let table : ℕ = t .lookups + lookupsIn ws (firstInstr ws b) j in
@@ -133,6 +136,8 @@ module _ (n : ℕ) (env : Env) (known : (b : ℕ) → b < blocks (env .ws) → t
       ap (drop (length (stage j .ops))) (goes .adds .so) ∙ drop-at (before .ops) (goes .adds .words) (length (stage j .ops)) long in
       record {
         table = table;
+        start = values + slotsIn ws (firstInstr ws b) j;
+        head = looked j g;
         before = before;
         from = long;
         until = ap (λ (o : Out). length (o .ops)) (sym same);
@@ -175,6 +180,11 @@ module _ (n : ℕ) (env : Env) (known : (b : ℕ) → b < blocks (env .ws) → t
       (edge-at n env fin next (firstEdge ws b) s s-from (y-is same) (omega (arith, ready .few-blocks))
       (λ (e : edgeTarget ws (firstEdge ws b) ≡ next). follows-is same (omega arith)))
 
+  return-stands : termKind ws b ≡ in-words.return → ReturnAt n env regs F b (length (r .ops))
+  return-stands g =
+      let same = term-return n env (t .switches) (t .label) next b r g in
+      rw (← long) (return-at n env fin exits b s s-from (y-is same))
+
   tail-stands : termKind ws b ≡ in-words.tailCall → TailAt n env regs F b (length (r .ops))
   tail-stands g =
       let f : ℕ = getD (env .functions) (termX ws b) 0 in
@@ -191,7 +201,7 @@ module _ (n : ℕ) (env : Env) (known : (b : ℕ) → b < blocks (env .ws) → t
       let two = ready .two-edges b live lo hi in
       let there : b < bs = live .there in
       rw (← long)
-      (branch-at n env fin regs-few next b s s-from (y-is same) (no (omega arith) (omega arith)) (omega arith) (ready .few-blocks) there
+      (branch-at n env fin regs-few regs-two next b s s-from (y-is same) (no (omega arith) (omega arith)) (omega arith) (ready .few-blocks) there
       (first-in (omega arith)) (target-in 1 (omega arith)) (follows-is same) lo hi)
 
   -- ---- Switch
@@ -228,23 +238,24 @@ module _ (n : ℕ) (env : Env) (known : (b : ℕ) → b < blocks (env .ws) → t
     switch-at : SwitchAt n env F targets heads b (length (r .ops))
     switch-at =
         record {
-          reg = operandReg n (termPlace ws places b 0) (s .last);
           table = t .switches;
           start = start;
           head = headed g;
+          reg = operandReg n (termPlace ws places b 0) (s .last);
           at = length (fetched n (termPlace ws places b 0) s .ops);
-          switches = rw (← long)
-              (switch-op n env fin (ready .few-blocks) (t .switches) (t .label) next b s s-from (y-is switched) mine enough each-in (follows-is switched));
+          fetches = rw (← long)
+              (switch-fetch n env fin (ready .few-blocks) (t .switches) (t .label) next b s s-from (y-is switched) mine enough each-in (follows-is switched));
+          switches = switch-op n env fin (ready .few-blocks) (t .switches) (t .label) next b s s-from (y-is switched) mine enough each-in (follows-is switched);
           default = switch-default n env fin (ready .few-blocks) (t .switches) (t .label) next b s s-from (y-is switched) mine enough each-in (follows-is switched);
           case = case-at;
           hole = slotted g .hole;
         }
 
-  pub block-at : BlockAt n env regs F targets heads b
+  pub block-at : BlockAt n env regs F targets heads lookupHeads b
   block-at =
       record {
         at = λ j. length (stage j .ops);
         starts = starts;
         instrs = instr-at;
-        term = record { jump = jump-at; branch = branches-at; switch = switch-at; tail = tail-stands };
+        term = record { return = return-stands; jump = jump-at; branch = branches-at; switch = switch-at; tail = tail-stands };
       }

@@ -28,12 +28,13 @@ use Rattle.calls.specs.Calls.{shuffle, tailWords, lowerTail}
 use Rattle.calls_proof.specs.CallsRight.{shuffleWords}
 use Rattle.instrs.specs.Instrs.{Env}
 use Rattle.body.specs.Body.{termPlace, returnOps, branchOps, switchOps, termOps, isSwitch}
-use Rattle.layout.specs.Layout.{Stands, goesOn, Ends, leaves, goes}
-use Rattle.layout.proofs.Straight.{code-word, moves-go}
-use Rattle.layout.proofs.Adding.{Adds, Any, Nil, stays, adds-none, adds-then, adds-any, adds-all, adds-emit, adds-span, adds-few, span-ops, between-at, adds-long}
+use Rattle.layout.specs.Layout.{Stands, goesOn, Leaves, Ends, leaves, goes, ReturnAt, nothing, value}
+use Rattle.layout.proofs.Straight.{code-word, goes-op, moves-go}
+use Rattle.layout.proofs.Adding.{Adds, Any, Nil, stays, adds-none, adds-then, adds-any, adds-nil, adds-all, adds-emit, adds-span, adds-few, emit-long, span-ops, between-at, adds-long}
 use Rattle.layout.proofs.Instrs.{by-fetch, called-goes}
 use Rattle.layout.proofs.Finish.{Finished, goes-there, run-stands}
 use Rattle.layout.proofs.Leaving.{by-ret, by-tail, AllLeave}
+use Rattle.layout.proofs.Fetches.{fetch-at}
 use Rattle.layout.proofs.Edges.{edge-adds}
 use Rattle.layout.proofs.Branches.{branches-add}
 use Rattle.layout.proofs.Pads.{switch-adds, switch-long}
@@ -59,7 +60,7 @@ module _ (n : ℕ) (env : Env) (table label next b : ℕ) (o : Out) where
   unfolding termOps
   term-none k = rw k
 
-  term-return : termKind (env .ws) b ≡ in-words.return → termOps n env table label next b o ≡ returnOps n (env .ws) (env .places) b (atSpan (termSpan (env .ws) b) o)
+  pub term-return : termKind (env .ws) b ≡ in-words.return → termOps n env table label next b o ≡ returnOps n (env .ws) (env .places) b (atSpan (termSpan (env .ws) b) o)
   unfolding termOps
   term-return k = rw k
 
@@ -178,3 +179,38 @@ tail-ends n env fin exits f arguments q h y =
     let e : length (r .ops) ≡ length (q .ops) + length words = adds-long (adds-all q words) in
     rw (← e)
     (form-ends fin exits (tail-form f (length arguments)) (length (r .ops)) (omega arith) (omega (arith, adds-long x, adds-few y)) (between-at x y))
+
+-- ---- Return
+module _ (n : ℕ) (env : Env) {regs : List ℕ} {from : ℕ} {B F : Out} (fin : Finished from B F) (exits : AllLeave regs from B F) where
+  -- a Ret that was added
+  ret-leaves : {P : ℕ → Type 0} (q : Out) → from ≤ length (q .ops) → Adds P (emit (word op.ret) q) B → Leaves regs F (word op.ret) (length (q .ops))
+  unfolding adds-emit
+  ret-leaves q h y =
+      let z : length (q .ops) + 0 ≡ length (q .ops) = add-zero (length (q .ops)) in
+      exits (length (q .ops)) (word op.ret) h (omega (arith, emit-long (word op.ret) q, adds-few y)) (rw z at (between-at (adds-emit q (word op.ret)) y 0 (omega arith)))
+      (by-ret refl)
+
+  pub return-at : {P : ℕ → Type 0} (b : ℕ) (q : Out) → from ≤ length (q .ops) → Adds P (returnOps n (env .ws) (env .places) b q) B
+      → ReturnAt n env regs F b (length (q .ops))
+  unfolding returnOps adds-emit
+  return-at {P} b q h y =
+      let c : ℕ = termOperandCount (env .ws) b in
+      let x : ℕ = termPlace (env .ws) (env .places) b 0 in
+      let r : Out = fetched n x q in
+      let reg : ℕ = operandReg n x (q .last) in
+      let m : ℕ = word (op.mov 0 reg) in
+      let go : goesOn m ≡ true = goes-op 2 0 reg 0 0 (omega arith) refl in
+      let more : length (q .ops) ≤ length (r .ops) = adds-few (by-fetch n x (stays q) .adds) in
+      let l : length (emit m r .ops) ≡ length (r .ops) + 1 = emit-long m r in
+      ⊎-elim
+      (λ (e : c ≡ 0). nothing e (ret-leaves q h (rw e at y)))
+      (λ (d : c ≢ 0).
+      let y2 : Adds P (emit (word op.ret) (emit m r)) B = rw (ne-eqb c 0 d) at y in
+      let y1 : Adds Nil (emit m r) B = adds-then (adds-any (adds-emit (emit m r) (word op.ret))) (adds-nil y2) in
+      let y0 : Adds Nil r B = adds-then (adds-any (adds-emit r m)) y1 in
+      let z : length (r .ops) + 0 ≡ length (r .ops) = add-zero (length (r .ops)) in
+      let is : opAt B (length (r .ops)) ≡ m = rw z at (between-at (adds-emit r m) y1 0 (omega arith)) in
+      value reg (length (r .ops)) d (fetch-at fin n x q h y0)
+      (goes-there fin (length (r .ops)) (omega arith) (omega (arith, adds-few y1)) (rw is go) ∙ is)
+      (rw (← l) (ret-leaves (emit m r) (omega arith) y2)))
+      (same? c 0)

@@ -27,7 +27,8 @@ use Rattle.layout.proofs.Leaving.{AllLeave}
 use Rattle.layout.proofs.Pads.{count-few}
 use Rattle.layout.proofs.Slots.{slots-long, slot-in, slots-case, slots-hole, targets-some, targets-none, targets-keep, targets-more}
 use Rattle.layout.proofs.Heads.{heads-some, heads-none, head-long, heads-first}
-use Rattle.layout.proofs.Blocks.{Old, old-more, padsOf, tallied-label, tallied-switches, block-long, block-adds, blocks-live, blocks-dead, blocks-add, next-bound}
+use Rattle.layout.proofs.Lookups.{Looked, looked-dead, looked-live, looked-at}
+use Rattle.layout.proofs.Blocks.{Old, old-more, padsOf, tallied-label, tallied-switches, tallied-lookups, block-long, block-adds, blocks-live, blocks-dead, blocks-add, next-bound}
 use Rattle.layout.proofs.Standing.{Slotted, block-at}
 
 -- ---- the switch tables
@@ -127,7 +128,7 @@ pub record Few (env : Env) (b label ops : ℕ) : Type 0 where
   pub by-blocks : label ≤ 2 * blocks (env .ws) + b * edges (env .ws)
   pub by-ops : 2 * label ≤ 4 * blocks (env .ws) + ops
 
-module _ (n : ℕ) (env : Env) (known : (b : ℕ) → b < blocks (env .ws) → termKind (env .ws) b < 8) (regs-few : n ≤ 256) (ready : Ready (env .ws))
+module _ (n : ℕ) (env : Env) (known : (b : ℕ) → b < blocks (env .ws) → termKind (env .ws) b < 8) (regs-few : n ≤ 256) (regs-two : 2 ≤ n) (ready : Ready (env .ws))
     (edges-there : (b : ℕ) → Live (env .ws) b → firstEdge (env .ws) b + edgeCount (env .ws) b ≤ edges (env .ws)) where
   -- a block's pads are no more than all edges
   pads-few : (b : ℕ) → Live (env .ws) b → padsOf (env .ws) (env .places) b ≤ edges (env .ws)
@@ -153,7 +154,7 @@ module _ (n : ℕ) (env : Env) (known : (b : ℕ) → b < blocks (env .ws) → t
       let m : (b + 1) * edges (env .ws) ≡ b * edges (env .ws) + edges (env .ws) = add-mul b 1 (edges (env .ws)) ∙ rw (one-mul (edges (env .ws))) in
       record { from = f .from; by-blocks = omega (arith, m, f .by-blocks); by-ops = f .by-ops }
 
-  module _ {regs : List ℕ} {start : ℕ} {B F : Out} (fin : Finished start B F) (exits : AllLeave regs start B F) (targets whole heads : List ℕ) (slots : ℕ)
+  module _ {regs : List ℕ} {start : ℕ} {B F : Out} (fin : Finished start B F) (exits : AllLeave regs start B F) (targets whole heads lookupHeads : List ℕ) (slots : ℕ)
       (resolves : (t : ℕ) → slots ≤ t → t < length whole → getD targets t 0 ≡ getD (F .labels) (getD whole t 0) 0)
       (room : 2 * blocks (env .ws) + min (blocks (env .ws) * edges (env .ws)) 32767 ≤ length (B .labels)) (short : length (B .ops) ≤ 65534) where
     -- so every pad has a label
@@ -166,9 +167,9 @@ module _ (n : ℕ) (env : Env) (known : (b : ℕ) → b < blocks (env .ws) → t
 
     -- the block at hand
     here : (t : Tally) (b k : ℕ) (q : Out) → b + suc k ≡ blocks (env .ws) → start ≤ length (q .ops) → Few env b (t .label) (length (q .ops))
-        → Adds Any (blocksOps n env t b (suc k) q) B → Tabled (env .ws) (env .places) whole heads slots b (suc k) (t .label) (t .switches) → isLive (env .ws) b ≡ true
-        → BlockAt n env regs F targets heads b
-    here t b k q h g f y T live =
+        → Adds Any (blocksOps n env t b (suc k) q) B → Tabled (env .ws) (env .places) whole heads slots b (suc k) (t .label) (t .switches)
+        → Looked (env .ws) lookupHeads b (suc k) (t .lookups) → isLive (env .ws) b ≡ true → BlockAt n env regs F targets heads lookupHeads b
+    here t b k q h g f y T L live =
         let l : Live (env .ws) b = record { there = omega arith; is = live } in
         let t′ : Tally = tallied (env .ws) (env .places) b t in
         let e : t′ .label ≡ t .label + padsOf (env .ws) (env .places) b = tallied-label (env .ws) (env .places) b t in
@@ -179,7 +180,7 @@ module _ (n : ℕ) (env : Env) (known : (b : ℕ) → b < blocks (env .ws) → t
         adds-then (adds-fewer (λ m p. old-more (omega arith) (omega (arith, e)) p) (blocks-add n env known t′ (b + 1) k r (omega arith) (omega (arith, f .from, e))))
         (adds-any y′) in
         let long : blocks (env .ws) ≤ length (blocksOps n env t′ (b + 1) k r .labels) = omega (arith, y′ .many, room) in
-        block-at n env known regs-few ready fin exits targets heads t b k q l g adds (f .from) (omega (arith, room))
+        block-at n env known regs-few regs-two ready fin exits targets heads lookupHeads t b k q l g adds (f .from) (omega (arith, room))
         (labels-enough (b + 1) (t .label + padsOf (env .ws) (env .places) b) (length (r .ops)) (omega arith) f′ (adds-few adds))
         (λ (i : nextLive (env .ws) (b + 1) k < blocks (env .ws)).
         sym (next-bound n env known t′ (b + 1) k r (omega arith) (omega (arith, f .from, e)) long i)
@@ -187,14 +188,15 @@ module _ (n : ℕ) (env : Env) (known : (b : ℕ) → b < blocks (env .ws) → t
         ∙ ap (λ (x : List ℕ). getD x (nextLive (env .ws) (b + 1) k) 0) (sym (fin .labels-same)))
         (T .start) (λ (s : termKind (env .ws) b ≡ in-words.switch). slotted env T resolves (rw (live, eq-eqb (termKind (env .ws) b) in-words.switch s)))
         (λ (s : termKind (env .ws) b ≡ in-words.switch). headed T (rw (live, eq-eqb (termKind (env .ws) b) in-words.switch s)))
+        (L .start) (looked-at L live)
 
     pub walk : (t : Tally) (b k : ℕ) (q : Out) → b + k ≡ blocks (env .ws) → start ≤ length (q .ops) → Few env b (t .label) (length (q .ops))
         → Adds Any (blocksOps n env t b k q) B → Tabled (env .ws) (env .places) whole heads slots b k (t .label) (t .switches)
-        → (c : ℕ) → b ≤ c → c < b + k → isLive (env .ws) c ≡ true → BlockAt n env regs F targets heads c
-    walk t b zero q h g f y T c i j live = absurd (omega arith)
-    walk t b (suc k) q h g f y T c i j live =
+        → Looked (env .ws) lookupHeads b k (t .lookups) → (c : ℕ) → b ≤ c → c < b + k → isLive (env .ws) c ≡ true → BlockAt n env regs F targets heads lookupHeads c
+    walk t b zero q h g f y T L c i j live = absurd (omega arith)
+    walk t b (suc k) q h g f y T L c i j live =
         ⊎-elim
-        (λ (e : c ≡ b). rw e (here t b k q h g f y T (rw e at live)))
+        (λ (e : c ≡ b). rw e (here t b k q h g f y T L (rw e at live)))
         (λ (d : c ≢ b).
         ⊎-elim
         (λ (on : isLive (env .ws) b ≡ true).
@@ -203,9 +205,10 @@ module _ (n : ℕ) (env : Env) (known : (b : ℕ) → b < blocks (env .ws) → t
         let l : Live (env .ws) b = record { there = omega arith; is = on } in
         let more : length (q .ops) ≤ length (r .ops) = adds-few (block-adds n env known t b k q (omega arith) (f .from)) in
         walk (tallied (env .ws) (env .places) b t) (b + 1) k r (omega arith) (omega arith) (rw e (few-on t b k q l f)) (rw (blocks-live n env known t b k q on) at y)
-        (rw (e, tallied-switches (env .ws) (env .places) b t) (tabled-live T on)) c (omega (arith, d)) (omega arith) live)
+        (rw (e, tallied-switches (env .ws) (env .places) b t) (tabled-live T on))
+        (rw (tallied-lookups (env .ws) (env .places) b t) (looked-live L on)) c (omega (arith, d)) (omega arith) live)
         (λ (off : isLive (env .ws) b ≡ false).
-        walk t (b + 1) k q (omega arith) g (few-dead b (t .label) (length (q .ops)) f) (rw (blocks-dead n env known t b k q off) at y) (tabled-dead T off) c
-        (omega (arith, d)) (omega arith) live)
+        walk t (b + 1) k q (omega arith) g (few-dead b (t .label) (length (q .ops)) f) (rw (blocks-dead n env known t b k q off) at y) (tabled-dead T off)
+        (looked-dead L off) c (omega (arith, d)) (omega arith) live)
         (both (isLive (env .ws) b)))
         (same? c b)

@@ -16,8 +16,6 @@ use libc::STDOUT_FILENO;
 use op::Op;
 use std::num::wrapping_add_u64;
 use std::num::wrapping_add_usize;
-pub use text::complain;
-pub use text::complain_of;
 use text::constant;
 pub use text::end;
 pub use text::field;
@@ -25,7 +23,7 @@ pub use text::head;
 use text::hex;
 use text::number;
 use text::padded;
-pub use text::refusal_name;
+pub use text::refusal;
 use text::signed32;
 use text::signed64;
 use text::wide_field;
@@ -50,7 +48,8 @@ pub type Lookups = [u64; 20480];
 
 pub type Values = [u64; 65536];
 
-// Six words for each function: its id, what became of it, its first op and its last one's successor, where its places start and how many.
+// Six words for each function: its id, what became of it (0 for nothing), its first op and its last one's successor, where its places start and
+// how many.
 pub type Facts = [u64; 1536];
 
 // The places of all functions one behind the other: a value has three words of the file at least.
@@ -153,26 +152,29 @@ pub fn fact(facts: &Facts, f: usize, k: usize) -> usize {
     base::get64(facts, wrapping_add_usize(6 * f, k)) as usize
 }
 
-fn heading(facts: &Facts, f: usize, what: &[u8]) {
+// How a heading of function f starts.
+pub fn heading(what: &[u8], f: usize, id: u64) {
     head(what, f);
     write(b", id");
-    field(fact(facts, f, 0) as u64);
+    field(id);
 }
 
-// The ops of function f under its heading.
+// The ops of function f under its heading, if it was reached.
 fn function_ops(facts: &Facts, ops: &Ops, spans: &Spans, f: usize) {
     let state = fact(facts, f, 1) as u64;
+    if state == 0 {
+        return;
+    }
+    heading(b"function", f, fact(facts, f, 0) as u64);
     if state == UNUSED {
-        heading(facts, f, b"function");
         write(b", unused\n");
+        return;
     }
-    if state == COMPILED {
-        heading(facts, f, b"function");
-        write(b", from pc");
-        field(fact(facts, f, 2) as u64);
-        end();
-        op_lines(false, ops, spans, fact(facts, f, 2), fact(facts, f, 3));
-    }
+    let from = fact(facts, f, 2);
+    write(b", from pc");
+    field(from as u64);
+    end();
+    op_lines(false, ops, spans, from, fact(facts, f, 3));
 }
 
 // The ops of all functions, each under its heading.
@@ -458,7 +460,7 @@ fn function_places(plain: bool, facts: &Facts, kept: &Kept, f: usize) {
         return;
     }
     if !plain {
-        heading(facts, f, b"\nplaces of function");
+        heading(b"\nplaces of function", f, fact(facts, f, 0) as u64);
         write(b", slots");
         field(slots_of(kept, at, n) as u64);
         end();

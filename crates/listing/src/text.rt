@@ -1,5 +1,4 @@
-// Lines on standard output, and messages on standard error.
-use libc::STDERR_FILENO;
+// Lines on standard output.
 use libc::STDOUT_FILENO;
 
 // The names of document 01's numbers, 0 for none of them.
@@ -78,8 +77,10 @@ pub fn padded(n: usize) {
     number(n as u64);
 }
 
-// Document 01's name of a number, on a standard stream.
-pub fn refusal_name(fd: i32, n: u32) {
+// Document 01's number and its name, on a standard stream.
+pub fn refusal(fd: i32, n: u8) {
+    io::print_decimal(fd, n as u64);
+    io::write_all(fd, b" ");
     opnames::write_name(fd, &REFUSALS, n as usize);
 }
 
@@ -96,19 +97,4 @@ pub fn constant(kind: u64, payload: u64) {
     if kind == 5 {
         field(payload);
     }
-}
-
-pub fn complain(text: &[u8]) {
-    io::write_all(STDERR_FILENO, text);
-}
-
-fn complain_number(n: usize) {
-    io::print_decimal(STDERR_FILENO, n as u64);
-}
-
-// The text, a number, and the rest of the message.
-pub fn complain_of(text: &[u8], n: usize, rest: &[u8]) {
-    complain(text);
-    complain_number(n);
-    complain(rest);
 }

@@ -5,6 +5,7 @@
 use moves_entry::Columns;
 use moves_entry::Emitted;
 ghost use Prim.Native.Nat.{_≤_};
+ghost use lib.ListN.{length};
 
 // How many words the file may have.
 const MOST_WORDS: usize = 32768;
@@ -24,7 +25,7 @@ struct Replayed {
 
 // The n moves from word `at` on.
 fn moves_at(bytes: &[u8], at: usize, n: usize) -> Columns
-    requires { ⌜ (at ≤ 40000) × (n ≤ 190) ⌝ }
+    requires { ⌜ n ≤ 190 ⌝ }
 {
     let mut c = Columns {
         src: [0u32; 190],
@@ -33,106 +34,65 @@ fn moves_at(bytes: &[u8], at: usize, n: usize) -> Columns
     };
     let mut i = 0;
     while i < n {
-        c.src[i] = replay::word(bytes, at + 2 * i);
-        c.dst[i] = replay::word(bytes, at + 2 * i + 1);
+        c.src[i] = replay::word_in(bytes, at, 2 * i);
+        c.dst[i] = replay::word_in(bytes, at, 2 * i + 1);
         i += 1;
     }
     c
 }
 
-// Are the m words from word `at` of the file on those of the ops behind the used length, each with the span?
-fn same(bytes: &[u8], at: usize, m: usize, ops: &[u64], spans: &[u32]) -> bool
-    requires { ⌜ (at ≤ 40000) × (m ≤ 760) ⌝ }
-{
-    let mut i = 0;
-    while i < m {
-        if base::get64(ops, USED + i) != replay::wide(bytes, at + 2 * i) {
-            return false;
-        }
-        if base::get32(spans, USED + i) != SPAN {
-            return false;
-        }
-        i += 1;
-    }
-    true
-}
-
 // The ops of a list into the first words of both buffers, as many as there is said to be room for.
-fn emit(ops: &mut [u64], room: usize, spans: &mut [u32], span_room: usize, c: Columns) -> Emitted {
-    if ops.len() < room {
-        return Emitted::TooMany;
-    }
-    if spans.len() < span_room {
-        return Emitted::TooMany;
-    }
+fn emit(ops: &mut [u64], room: usize, spans: &mut [u32], span_room: usize, c: Columns) -> Emitted
+    requires { ⌜ (room ≤ length (now ops)) × («span_room» ≤ length (now spans)) ⌝ }
+{
     moves_entry::emit_columns(&mut ops[..room], &mut spans[..span_room], USED, SPAN, c)
 }
 
-// Buffers that the m ops fill exactly.
-fn full(bytes: &[u8], at: usize, m: usize, c: Columns) -> bool
-    requires { ⌜ (at ≤ 40000) × (m ≤ 760) ⌝ }
+// Is the answer Done with this used length where the list fits, and else that there is no room?
+fn answered(e: Emitted, fits: bool, end: usize) -> bool {
+    match e {
+        Emitted::Done(used) => fits & (used == end),
+        Emitted::NoRoom => !fits,
+        Emitted::TooMany => false,
+        Emitted::BadMove => false,
+    }
+}
+
+// A list in so much room: is the answer right, and do the m ops from word `at` on stand in the buffers, each with the span, and nothing else?
+fn emits(
+    bytes: &[u8],
+    at: usize,
+    m: usize,
+    room: usize,
+    span_room: usize,
+    fits: bool,
+    c: Columns,
+) -> bool
+    requires { ⌜ (m ≤ 760) × ((room ≤ 1024) × («span_room» ≤ 1024)) ⌝ }
 {
     let mut ops = [0u64; 1024];
     let mut spans = [0u32; 1024];
     let end = USED + m;
-    match emit(&mut ops, end, &mut spans, end, c) {
-        Emitted::Done(used) => {
-            if used == end {
-                same(bytes, at, m, &ops, &spans)
-            } else {
-                false
-            }
-        }
-        Emitted::TooMany => false,
-        Emitted::NoRoom => false,
-        Emitted::BadMove => false,
-    }
+    let e = emit(&mut ops, room, &mut spans, span_room, c);
+    let before = replay::zeros64(&ops, USED) & replay::zeros32(&spans, USED);
+    let code = replay::right64(bytes, at, m, 0, &ops[USED..], 1024);
+    let spanned = replay::right32(bytes, at, 0, SPAN, &spans[USED..], m);
+    let past = replay::zeros32(&spans[end..], 1024);
+    answered(e, fits, end) & before & code & spanned & past
 }
 
-// Is every word zero?
-fn zeros64(a: &[u64]) -> bool {
-    let mut i = 0;
-    while i < a.len() {
-        if a[i] != 0 {
-            return false;
-        }
-        i += 1;
-    }
-    true
-}
-
-fn zeros32(a: &[u32]) -> bool {
-    let mut i = 0;
-    while i < a.len() {
-        if a[i] != 0 {
-            return false;
-        }
-        i += 1;
-    }
-    true
-}
-
-// Is a list refused by buffers of this room, and nothing written?
-fn refused(room: usize, span_room: usize, c: Columns) -> bool {
-    let mut ops = [0u64; 1024];
-    let mut spans = [0u32; 1024];
-    match emit(&mut ops, room, &mut spans, span_room, c) {
-        Emitted::NoRoom => zeros64(&ops) & zeros32(&spans),
-        Emitted::Done(_) => false,
-        Emitted::TooMany => false,
-        Emitted::BadMove => false,
-    }
-}
-
-// Buffers of which either is one short of the m ops.
-fn short(m: usize, c: Columns) -> bool
+// Buffers that the m ops from word `at` on fill exactly, and buffers of which either is one short.
+fn replay_moves(bytes: &[u8], at: usize, m: usize, c: Columns) -> bool
     requires { ⌜ m ≤ 760 ⌝ }
 {
-    if m == 0 {
-        return true;
-    }
     let end = USED + m;
-    refused(end - 1, end, c) & refused(end, end - 1, c)
+    let full = emits(bytes, at, m, end, end, true, c);
+    if m == 0 {
+        return full;
+    }
+    let short_ops = emits(bytes, at, 0, end - 1, end, false, c);
+    let short_spans = emits(bytes, at, 0, end, end - 1, false, c);
+    full & short_ops & short_spans
 }
 
 // The list at word `at`.
@@ -156,12 +116,10 @@ fn replay_list(bytes: &[u8], at: usize) -> Replayed
     }
     let ops_at = at + 2 + 2 * n;
     let c = moves_at(bytes, at + 1, n);
-    let fills = full(bytes, ops_at, m, c);
-    let refuses = short(m, c);
     Replayed {
         next: ops_at + 2 * m,
         ops: m,
-        ok: fills & refuses,
+        ok: replay_moves(bytes, ops_at, m, c),
     }
 }
 

@@ -5,31 +5,24 @@
 // exactly a word for each value, and is refused where one of the three is a word short.
 use placing::Placing;
 ghost use Prim.Native.Nat.{_+_, _≤_, _<_};
+ghost use lib.ListN.{length};
 
-// How many values a function of the file may have.
+// How many words, words of the function table, and values a function of the file may have.
+const MOST_WORDS: usize = 8192;
+
+const MOST_FUNCTIONS: usize = 64;
+
 const MOST_VALUES: usize = 512;
 
 // What stands in every word that is lent; it is no map word.
 const LENT: u32 = 999;
 
-// What a call answers, by document 01's number, with the slots made and one past the highest general register.
+// What a call should answer: document 01's number, the slots made, one past the highest general register; and how many map words it gives.
 struct Answer {
     number: u32,
     slots: u32,
     top: u32,
-}
-
-// What the file says of a call; not whole where it ends too early.
-struct Expected {
-    answer: Answer,
-    whole: bool,
-}
-
-// How many words of each buffer are lent.
-struct Room {
-    map: usize,
-    hints: usize,
-    noted: usize,
+    values: usize,
 }
 
 // How many values a function has, and whether all is as the Rust has it; not whole where the file ends too early, or a function is larger
@@ -40,108 +33,16 @@ struct Replayed {
     whole: bool,
 }
 
-// The next word of the file, 0 past its end.
-fn next_word() -> u32 {
-    let mut bytes = [0u8; 4];
-    let n = io::read_full(0, &mut bytes);
-    replay::word(&bytes[..n], 0)
-}
-
-// The next n bytes of the file: are they there, and is there room for them?
-fn next_bytes(bytes: &mut [u8], n: usize) -> bool {
-    if bytes.len() < n {
-        return false;
-    }
-    let got = io::read_full(0, &mut bytes[..n]);
-    got == n
-}
-
-// The next n words of the file, as the first of `ws`.
-fn next_words(bytes: &mut [u8], ws: &mut [u32], n: u32) -> bool {
-    let count = n as usize;
-    if !next_bytes(bytes, 4 * count) {
-        return false;
-    }
-    let mut i = 0;
-    while i < count {
-        base::set32(ws, i, replay::word(bytes, i));
-        i += 1;
-    }
-    true
-}
-
-// The next n words of 64 bits.
-fn next_table(bytes: &mut [u8], functions: &mut [u64], n: u32) -> bool {
-    let count = n as usize;
-    if !next_bytes(bytes, 8 * count) {
-        return false;
-    }
-    let mut i = 0;
-    while i < count {
-        base::set64(functions, i, replay::wide(bytes, 2 * i));
-        i += 1;
-    }
-    true
-}
-
-fn refusal(number: u32) -> Answer {
-    Answer {
-        number: number,
-        slots: 0,
-        top: 0,
-    }
-}
-
-// No function of the file is unfit, so any number that the file does not have stands for it.
-fn answer_of(p: Placing) -> Answer {
+// Is this what a call answered?
+fn answered(p: Placing, a: Answer) -> bool {
     match p {
-        Placing::Given(slots, top) => Answer {
-            number: 0,
-            slots: slots as u32,
-            top: top as u32,
-        },
-        Placing::Unfit(_) => refusal(255),
-        Placing::NoSlot => refusal(8),
-        Placing::NoRoom => refusal(9),
-    }
-}
-
-fn same_answer(a: Answer, b: Answer) -> bool {
-    (a.number == b.number) & (a.slots == b.slots) & (a.top == b.top)
-}
-
-fn same_words(a: &[u32], b: &[u32]) -> bool {
-    let mut i = 0;
-    while i < a.len() {
-        if a[i] != base::get32(b, i) {
-            return false;
+        Placing::Given(slots, top) => {
+            (a.number == 0) & (a.slots == slots as u32) & (a.top == top as u32)
         }
-        i += 1;
+        Placing::Unfit(_) => false,
+        Placing::NoSlot => a.number == 8,
+        Placing::NoRoom => a.number == 9,
     }
-    true
-}
-
-// Are the first n words zero?
-fn zeros32(a: &[u32], n: usize) -> bool {
-    let mut i = 0;
-    while i < n {
-        if base::get32(a, i) != 0 {
-            return false;
-        }
-        i += 1;
-    }
-    true
-}
-
-fn zeros64(a: &[u64], n: usize) -> bool {
-    let mut i = 0;
-    while i < n {
-        if base::get64(a, i) != 0 {
-            return false;
-        }
-        i += 1;
-    }
-    true
 }
 
 // The places of a function in so many of the first words of the buffers.
@@ -149,76 +50,61 @@ fn call(
     ws: &[u32],
     functions: &[u64],
     map: &mut [u32],
+    m: usize,
     hints: &mut [u32],
+    h: usize,
     noted: &mut [u64],
-    room: Room,
-) -> Answer {
-    let m = room.map;
-    let h = room.hints;
-    let d = room.noted;
-    if map.len() < m {
-        return refusal(255);
-    }
-    if hints.len() < h {
-        return refusal(255);
-    }
-    if noted.len() < d {
-        return refusal(255);
-    }
-    let p = placing::places(
+    d: usize,
+) -> Placing
+    requires { ⌜ (m ≤ length (now map)) × ((h ≤ length (now hints)) × (d ≤ length (now noted))) ⌝ }
+{
+    placing::places(
         ws,
         functions,
         &mut map[..m],
         &mut hints[..h],
         &mut noted[..d],
-    );
-    answer_of(p)
+    )
 }
 
-// Is this the answer in such room, with these words in the map, and the lent work room zero?
-fn agrees(ws: &[u32], functions: &[u64], room: Room, expected: Answer, want: &[u32]) -> bool {
+// In so many words of each buffer: is this the answer, are the map's words those at the front of `bytes`, and is the lent work room zero?
+fn agrees(
+    ws: &[u32],
+    functions: &[u64],
+    m: usize,
+    h: usize,
+    d: usize,
+    a: Answer,
+    bytes: &[u8],
+) -> bool
+    requires { ⌜ (m ≤ 512) × ((h ≤ 512) × (d ≤ 512)) ⌝ }
+{
     let mut map = [LENT; MOST_VALUES];
     let mut hints = [LENT; MOST_VALUES];
     let mut noted = [999u64; MOST_VALUES];
-    let got = call(ws, functions, &mut map, &mut hints, &mut noted, room);
-    let answered = same_answer(got, expected);
-    let placed = same_words(&map, want);
-    let zero = zeros32(&hints, room.hints) & zeros64(&noted, room.noted);
-    answered & placed & zero
-}
-
-// Is a function refused with this number in such room, and the map as it was?
-fn refused(ws: &[u32], functions: &[u64], room: Room, number: u32) -> bool {
-    let untouched = [LENT; MOST_VALUES];
-    agrees(ws, functions, room, refusal(number), &untouched)
+    let p = call(ws, functions, &mut map, m, &mut hints, h, &mut noted, d);
+    answered(p, a)
+        & replay::right32(bytes, 0, a.values, LENT, &map, MOST_VALUES)
+        & replay::zeros32(&hints, h)
+        & replay::zeros64(&noted, d)
 }
 
 // Each buffer in turn a word short of the n values: 9, where the number is not the lower 8.
-fn short(ws: &[u32], functions: &[u64], n: usize, number: u32) -> bool {
+fn short(ws: &[u32], functions: &[u64], n: usize, number: u32, bytes: &[u8]) -> bool
+    requires { ⌜ n ≤ 512 ⌝ }
+{
     if n == 0 {
         return true;
     }
-    let less = n - 1;
-    let short_map = Room {
-        map: less,
-        hints: n,
-        noted: n,
+    let a = Answer {
+        number: if number == 8 { 8 } else { 9 },
+        slots: 0,
+        top: 0,
+        values: 0,
     };
-    let short_hints = Room {
-        map: n,
-        hints: less,
-        noted: n,
-    };
-    let short_noted = Room {
-        map: n,
-        hints: n,
-        noted: less,
-    };
-    let lowest = if number == 8 { 8 } else { 9 };
-    let a = refused(ws, functions, short_map, lowest);
-    let b = refused(ws, functions, short_hints, lowest);
-    let c = refused(ws, functions, short_noted, lowest);
-    a & b & c
+    agrees(ws, functions, n - 1, n, n, a, bytes)
+        & agrees(ws, functions, n, n - 1, n, a, bytes)
+        & agrees(ws, functions, n, n, n - 1, a, bytes)
 }
 
 fn cut_short() -> Replayed
@@ -231,98 +117,71 @@ fn cut_short() -> Replayed
     }
 }
 
-// The function in buffers of each room; word 3 of it says how many values it has.
-fn replay_function(ws: &[u32], functions: &[u64], expected: Answer, want: &[u32]) -> Replayed
+// The answer that comes next in the file, all but the map words.
+fn next_answer() -> Answer {
+    let number = replay::next_word();
+    let mut a = Answer {
+        number: number,
+        slots: 0,
+        top: 0,
+        values: 0,
+    };
+    if number == 0 {
+        a.slots = replay::next_word();
+        a.top = replay::next_word();
+        a.values = replay::next_word() as usize;
+    }
+    a
+}
+
+// The function in buffers of each room, with the answer that comes next in the file; word 3 of it says how many values it has.
+fn replay_function(ws: &[u32], functions: &[u64], bytes: &mut [u8]) -> Replayed
+    requires { ⌜ 32768 ≤ length (now bytes) ⌝ }
     ensures { λ r. ⌜ r .values ≤ 512 ⌝ }
 {
     let n = base::get32(ws, 3) as usize;
+    let a = next_answer();
     if MOST_VALUES < n {
         return cut_short();
     }
-    let exact = Room {
-        map: n,
-        hints: n,
-        noted: n,
-    };
-    let number = expected.number;
-    let given = agrees(ws, functions, exact, expected, want);
-    let refuses = short(ws, functions, n, number);
+    if MOST_VALUES < a.values {
+        return cut_short();
+    }
+    if !replay::next_bytes(&mut bytes[..4 * a.values]) {
+        return cut_short();
+    }
+    let given = agrees(ws, functions, n, n, n, a, bytes);
     Replayed {
         values: n,
-        same: given & refuses,
+        same: given & short(ws, functions, n, a.number, bytes),
         whole: true,
     }
 }
 
-// The function in the first n words, with the first t of the table.
-fn replay_part(
-    ws: &[u32],
-    n: usize,
-    functions: &[u64],
-    t: usize,
-    expected: Answer,
-    want: &[u32],
-) -> Replayed
-    ensures { λ r. ⌜ r .values ≤ 512 ⌝ }
-{
-    if ws.len() < n {
-        return cut_short();
-    }
-    if functions.len() < t {
-        return cut_short();
-    }
-    replay_function(&ws[..n], &functions[..t], expected, want)
-}
-
-// The answer that comes next in the file, with the map words as the first of `want`.
-fn next_answer(bytes: &mut [u8], want: &mut [u32]) -> Expected {
-    let number = next_word();
-    if number != 0 {
-        return Expected {
-            answer: refusal(number),
-            whole: true,
-        };
-    }
-    let slots = next_word();
-    let top = next_word();
-    let values = next_word();
-    let whole = next_words(bytes, want, values);
-    let answer = Answer {
-        number: number,
-        slots: slots,
-        top: top,
-    };
-    Expected {
-        answer: answer,
-        whole: whole,
-    }
-}
-
 // The next function of the file.
-fn replay_next(bytes: &mut [u8], ws: &mut [u32], functions: &mut [u64]) -> Replayed
+fn replay_next(bytes: &mut [u8]) -> Replayed
+    requires { ⌜ 32768 ≤ length (now bytes) ⌝ }
     ensures { λ r. ⌜ r .values ≤ 512 ⌝ }
 {
-    let n = next_word();
-    if !next_words(bytes, ws, n) {
+    let mut ws = [0u32; MOST_WORDS];
+    let mut functions = [0u64; MOST_FUNCTIONS];
+    let n = replay::next_word() as usize;
+    if MOST_WORDS < n {
         return cut_short();
     }
-    let t = next_word();
-    if !next_table(bytes, functions, t) {
+    if !replay::next_bytes(&mut bytes[..4 * n]) {
         return cut_short();
     }
-    let mut want = [LENT; MOST_VALUES];
-    let expected = next_answer(bytes, &mut want);
-    if !expected.whole {
+    replay::load32(bytes, 0, &mut ws, n);
+    let t = replay::next_word() as usize;
+    if MOST_FUNCTIONS < t {
         return cut_short();
     }
-    replay_part(
-        ws,
-        n as usize,
-        functions,
-        t as usize,
-        expected.answer,
-        &want,
-    )
+    if !replay::next_bytes(&mut bytes[..8 * t]) {
+        return cut_short();
+    }
+    replay::load64(bytes, 0, &mut functions, t);
+    replay_function(&ws[..n], &functions[..t], bytes)
 }
 
 // How many functions differ, function i among them; the first that differs is named.
@@ -351,13 +210,15 @@ fn report(functions: u32, values: usize, differ: u32) {
 }
 
 // All functions: how many, how many values they have, how many differ.
-fn replay_all(bytes: &mut [u8], ws: &mut [u32], functions: &mut [u64]) {
-    let count = next_word();
+fn replay_all(bytes: &mut [u8])
+    requires { ⌜ 32768 ≤ length (now bytes) ⌝ }
+{
+    let count = replay::next_word();
     let mut done = 0;
     let mut values = 0;
     let mut differ = 0;
     while done < count {
-        let r = replay_next(bytes, ws, functions);
+        let r = replay_next(bytes);
         if !r.whole {
             replay::write(b"the file is cut short\n");
             return;
@@ -371,7 +232,5 @@ fn replay_all(bytes: &mut [u8], ws: &mut [u32], functions: &mut [u64]) {
 
 fn main() {
     let mut bytes = [0u8; 32768];
-    let mut ws = [0u32; 8192];
-    let mut functions = [0u64; 64];
-    replay_all(&mut bytes, &mut ws, &mut functions);
+    replay_all(&mut bytes);
 }

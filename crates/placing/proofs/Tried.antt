@@ -18,7 +18,7 @@ use Rattle.placing.specs.Placing.{roomOk, PlacesGiven, PlacesTried}
 use Rattle.placing.proofs.Parts.{room-says}
 
 -- the registers used below k are at most k
-used-most : (m k : ℕ) → usedBelow m k ≤ k
+pub used-most : (m k : ℕ) → usedBelow m k ≤ k
 unfolding usedBelow
 used-most m zero = omega arith
 used-most m (suc k) = pick-both (λ (x : ℕ). x ≤ suc k) (hasBit m k) (suc k) (usedBelow m k) (omega arith) (omega (arith, used-most m k))

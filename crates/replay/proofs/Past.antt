@@ -1,13 +1,13 @@
 -- Words past the end of a file.
 use Prim.Native.Nat.{ℕ, _+_, _/_, _≤_}
-use mathlib.Core.Path.{_≡_}
+use mathlib.Core.Path.{_≡_, sym}
 use mathlib.Core.List.{List}
 use native.Mathlib.Omega.{arith}
 use borrow.Author.Tests.{le-ltb}
 use lib.ListN.{length}
 use Rattle.replay.specs.Words.{wordAt, wideAt}
 
-pub word-past : (l : List ℕ) (i : ℕ) → length l / 4 ≤ i → wordAt l i ≡ 0
+pub word-past : (l : List ℕ) (i : ℕ) → length l / 4 ≤ i → 0 ≡ wordAt l i
 unfolding wordAt
 word-past l i h = rw (le-ltb i (length l / 4) h)
 
@@ -15,4 +15,4 @@ pub wide-past : (l : List ℕ) (i : ℕ) → length l / 4 ≤ i → 0 ≡ wideAt
 unfolding wideAt
 wide-past l i h =
     let h′ : length l / 4 ≤ i + 1 = omega arith in
-    rw (word-past l i h, word-past l (i + 1) h′)
+    rw (sym (word-past l i h), sym (word-past l (i + 1) h′))

@@ -1,9 +1,11 @@
-// What the programs that replay test vectors share: the words of a file, and lines on standard output.
+// What the programs that replay test vectors share: the words of a file, buffers held against them, and lines on standard output.
+use libc::STDIN_FILENO;
 use libc::STDOUT_FILENO;
 ghost use mathlib.Core.Path.{_≡_};
-ghost use Prim.Native.Nat.{_<_};
+ghost use Prim.Native.Nat.{_<_, _+_, min};
 ghost use lib.ListN.{length, getD};
-ghost use Rattle.replay.specs.Words.{wordAt, wideAt};
+ghost use lib.Seq.{sets};
+ghost use Rattle.replay.specs.Words.{wordAt, wideAt, wordIn, wideIn, entries, alike, listed};
 
 fn byte(bytes: &[u8], at: usize) -> u32
     requires { ⌜ at < length (now bytes) ⌝ }
@@ -35,6 +37,175 @@ pub fn wide(bytes: &[u8], i: usize) -> u64
     let low = word(bytes, i) as u64;
     let high = word(bytes, i + 1) as u64;
     low + 4294967296 * high
+}
+
+// Entry i of a list that starts at word `at`: a word, or two as one number.
+pub fn word_in(bytes: &[u8], at: usize, i: usize) -> u32
+    ensures { λ r. ⌜ r ≡ wordIn (now (bytes .entry)) at i ⌝ }
+{
+    let words = bytes.len() / 4;
+    if words <= at {
+        return 0;
+    }
+    if words <= i {
+        return 0;
+    }
+    word(bytes, at + i)
+}
+
+pub fn wide_in(bytes: &[u8], at: usize, i: usize) -> u64
+    ensures { λ r. ⌜ r ≡ wideIn (now (bytes .entry)) at i ⌝ }
+{
+    let words = bytes.len() / 4;
+    if words <= at {
+        return 0;
+    }
+    if words <= i {
+        return 0;
+    }
+    wide(bytes, at + 2 * i)
+}
+
+// The first n entries of a list, as the first words of a buffer.
+pub fn load32(bytes: &[u8], at: usize, to: &mut [u32], n: usize)
+    ensures { λ _. ⌜ now (to .exit) ≡ sets (now (to .entry)) 0 (entries (wordIn (now (bytes .entry)) at) 0 n) ⌝ }
+{
+    let mut i = 0;
+    while i < n {
+        base::set32(to, i, word_in(bytes, at, i));
+        i += 1;
+    }
+}
+
+pub fn load64(bytes: &[u8], at: usize, to: &mut [u64], n: usize)
+    ensures { λ _. ⌜ now (to .exit) ≡ sets (now (to .entry)) 0 (entries (wideIn (now (bytes .entry)) at) 0 n) ⌝ }
+{
+    let mut i = 0;
+    while i < n {
+        base::set64(to, i, wide_in(bytes, at, i));
+        i += 1;
+    }
+}
+
+// What should stand at i of a buffer: the list up to `used`, then the same word everywhere.
+fn want32(bytes: &[u8], at: usize, used: usize, rest: u32, i: usize) -> u32
+    ensures { λ r. ⌜ r ≡ listed (wordIn (now (bytes .entry)) at) used rest i ⌝ }
+{
+    if i < used {
+        word_in(bytes, at, i)
+    } else {
+        rest
+    }
+}
+
+fn want64(bytes: &[u8], at: usize, used: usize, rest: u64, i: usize) -> u64
+    ensures { λ r. ⌜ r ≡ listed (wideIn (now (bytes .entry)) at) used rest i ⌝ }
+{
+    if i < used {
+        wide_in(bytes, at, i)
+    } else {
+        rest
+    }
+}
+
+// Are the first n words of a buffer so?
+pub fn right32(bytes: &[u8], at: usize, used: usize, rest: u32, a: &[u32], n: usize) -> bool
+    ensures { λ r. ⌜ r ≡ alike (listed (wordIn (now (bytes .entry)) at) used rest) (now (a .entry)) 0 n ⌝ }
+{
+    let mut i = 0;
+    while i < n {
+        if base::get32(a, i) != want32(bytes, at, used, rest, i) {
+            return false;
+        }
+        i += 1;
+    }
+    true
+}
+
+pub fn right64(bytes: &[u8], at: usize, used: usize, rest: u64, a: &[u64], n: usize) -> bool
+    ensures { λ r. ⌜ r ≡ alike (listed (wideIn (now (bytes .entry)) at) used rest) (now (a .entry)) 0 n ⌝ }
+{
+    let mut i = 0;
+    while i < n {
+        if base::get64(a, i) != want64(bytes, at, used, rest, i) {
+            return false;
+        }
+        i += 1;
+    }
+    true
+}
+
+// Are the first n words of two buffers the same?
+pub fn same32(a: &[u32], b: &[u32], n: usize) -> bool
+    ensures { λ r. ⌜ r ≡ alike (λ i. getD (now (b .entry)) i 0) (now (a .entry)) 0 n ⌝ }
+{
+    let mut i = 0;
+    while i < n {
+        if base::get32(a, i) != base::get32(b, i) {
+            return false;
+        }
+        i += 1;
+    }
+    true
+}
+
+pub fn same64(a: &[u64], b: &[u64], n: usize) -> bool
+    ensures { λ r. ⌜ r ≡ alike (λ i. getD (now (b .entry)) i 0) (now (a .entry)) 0 n ⌝ }
+{
+    let mut i = 0;
+    while i < n {
+        if base::get64(a, i) != base::get64(b, i) {
+            return false;
+        }
+        i += 1;
+    }
+    true
+}
+
+// Are the first n words zero?
+pub fn zeros32(a: &[u32], n: usize) -> bool
+    ensures { λ r. ⌜ r ≡ alike (λ i. 0) (now (a .entry)) 0 n ⌝ }
+{
+    let mut i = 0;
+    while i < n {
+        if base::get32(a, i) != 0 {
+            return false;
+        }
+        i += 1;
+    }
+    true
+}
+
+pub fn zeros64(a: &[u64], n: usize) -> bool
+    ensures { λ r. ⌜ r ≡ alike (λ i. 0) (now (a .entry)) 0 n ⌝ }
+{
+    let mut i = 0;
+    while i < n {
+        if base::get64(a, i) != 0 {
+            return false;
+        }
+        i += 1;
+    }
+    true
+}
+
+// A part is never longer than its buffer.
+pub fn least(n: usize, m: usize) -> usize
+    ensures { λ r. ⌜ r ≡ min n m ⌝ }
+{
+    if n < m { n } else { m }
+}
+
+// The next bytes of standard input, as many as the buffer has: are they there?
+pub fn next_bytes(bytes: &mut [u8]) -> bool {
+    io::read_full(STDIN_FILENO, bytes) == bytes.len()
+}
+
+// The next word of standard input, 0 past its end.
+pub fn next_word() -> u32 {
+    let mut bytes = [0u8; 4];
+    let n = io::read_full(STDIN_FILENO, &mut bytes);
+    word(&bytes[..n], 0)
 }
 
 pub fn write(text: &[u8]) {

@@ -10,29 +10,15 @@ use lib.Dec.{leb}
 use lib.ListN.{length, take, drop}
 use lib.Seq.{sets, length-sets, length-take-le, take-at}
 use Rattle.base.specs.Limits.{mostOfAKind}
-use Rattle.base.proofs.Numbers.{pick-both}
 use Rattle.base.proofs.Lists.{sets-front}
 use Rattle.grow.specs.declared.End.{End}
 use Rattle.grow.specs.Growing.{Grown, Grows}
 use Rattle.grow.proofs.Growing.{grown-start, grown-done, grown-full, grown-lengths}
-use Rattle.input.specs.Forms.{both}
 use Rattle.input.proofs.Chain.{both-parts}
 use Rattle.lists.specs.Lists.{room}
 use Rattle.strings.specs.declared.Strings.the-variants.{Done, BadWord, TooMany, BadShape, NoRoom}
 use Rattle.strings.proofs.Judging.{first-most}
 use Rattle.strings.specs.Strings.{functionsIn, firstUnfit, allStrings, stringsAfter, usedOk, outcome, interned}
-
-alone : (t : Bool) → t ≡ both t true
-alone true = refl
-alone false = refl
-
--- a used length past the most
-pub used-over : (size used : ℕ) → mostOfAKind < used → false ≡ both (leb (2 * used) size) (leb used mostOfAKind)
-used-over size used h = rw (lt-leb used mostOfAKind h) (pick-both (λ (t : Bool). false ≡ t) (leb (2 * used) size) false false refl refl)
-
--- one that is not is a matter of the buffer
-pub used-most : (size used : ℕ) → used ≤ mostOfAKind → leb (2 * used) size ≡ both (leb (2 * used) size) (leb used mostOfAKind)
-used-most size used h = rw (le-leb used mostOfAKind h) (alone (leb (2 * used) size))
 
 -- the used length passes neither its buffer nor the most
 pub record Within (globals : List ℕ) (used : ℕ) : Type 0 where

@@ -6,13 +6,13 @@ use lib.Dec.{leb, eqb}
 use lib.ListN.{length, take, drop}
 use lib.Seq.{sets}
 use Rattle.base.specs.Choice.{pick}
-use Rattle.base.specs.Limits.{mostOfAKind}
 use Rattle.input.specs.Layout.{unusedMark}
-use Rattle.input.specs.Forms.{both, wordsOk}
+use Rattle.input.specs.Forms.{wordsOk}
 use Rattle.shape.specs.Counts.{countsOk}
 use Rattle.shape.specs.Shape.{shapeOk}
 use Rattle.tables.specs.Interning.{stringsInterned}
 use Rattle.lists.specs.Lists.{room}
+use Rattle.used.specs.Used.{within}
 use Rattle.strings.specs.declared.Strings.{Strings}
 use Rattle.strings.specs.declared.Strings.the-variants.{Done, BadWord, TooMany, BadShape, NoRoom}
 
@@ -71,7 +71,7 @@ stringsAfter words ends globals used = allStrings (functionsIn words 0 ends) (ta
 
 -- 2: the used length passes the buffer, or 65,534; 9: they need more than is lent, or pass 65,534
 abbrev pub usedOk : List ℕ → ℕ → Bool
-usedOk globals used = both (leb (2 * used) (length globals)) (leb used mostOfAKind)
+usedOk globals used = within 2 used (length globals)
 
 abbrev pub roomOk : List ℕ → List ℕ → List ℕ → ℕ → Bool
 roomOk words ends globals used = leb (length (stringsAfter words ends globals used)) (room 2 globals)

@@ -3,13 +3,11 @@ use grow::End;
 use judge::Verdict;
 ghost use mathlib.Core.Path.{_≡_};
 ghost use mathlib.Core.Bool.{true};
-ghost use Prim.Native.Nat.{_*_, _-_, min, max};
+ghost use Prim.Native.Nat.{_-_, min, max};
 ghost use lib.Dec.{leb};
 ghost use lib.ListN.{length, take, drop};
 ghost use Rattle.base.specs.Choice.{pick};
-ghost use Rattle.base.specs.Limits.{mostOfAKind};
 ghost use Rattle.grow.specs.Growing.{Grows};
-ghost use Rattle.input.specs.Forms.{both};
 ghost use Rattle.judge.specs.Judged.{verdictNumber};
 ghost use Rattle.tables.specs.Interning.{stringsInterned};
 ghost use Rattle.place.specs.Registers.{registers};
@@ -25,9 +23,7 @@ pub enum Strings {
     NoRoom,
 }
 
-// The most globals, and as words.
-const MOST: usize = 65534;
-
+// The words of the most globals.
 const MOST_WORDS: usize = 131068;
 
 // A verdict's number from 1 to 3, 0 for any other.
@@ -159,16 +155,6 @@ fn intern_list(words: &[u32], ends: &[u32], globals: &mut [u64], e: End) -> End
     f
 }
 
-// Is the used length within a buffer of so many words?
-fn used_ok(size: usize, used: usize) -> bool
-    ensures { λ r. ⌜ r ≡ both (leb (2 * used) size) (leb used mostOfAKind) ⌝ }
-{
-    if MOST < used {
-        return false;
-    }
-    2 * used <= size
-}
-
 // The strings of fit functions in a list that is copied back where it finds room.
 fn intern_in(
     words: &[u32],
@@ -205,7 +191,7 @@ pub fn intern_strings(words: &[u32], ends: &[u32], globals: &mut [u64], used: us
     if f.number == 1 {
         return Strings::BadWord(index);
     }
-    if !used_ok(globals.len(), used) {
+    if !used::within(2, used, globals.len()) {
         return Strings::TooMany(0);
     }
     if f.number == 2 {

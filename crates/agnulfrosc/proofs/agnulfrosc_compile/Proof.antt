@@ -15,8 +15,8 @@ compile-requires c κs = search needs
 store-used-requires : tie.Need-store-used-requires
 store-used-requires c κs = search needs
 
-answer-number-requires : tie.Need-answer-number-requires
-answer-number-requires c κs = search needs
+number-of-requires : tie.Need-number-of-requires
+number-of-requires c κs = search needs
 
 same-length : tie.Need-same-length
 same-length c = c .before .before .before .before .before .before .before .before .before .before .before .before .before .before .before .before .before .before .before .before .before .before .before .before .before .before .before .before .before .before .before .before .compile .kept .1 .0
@@ -67,7 +67,7 @@ returns c =
     let b =
     lent (a .ops .now) (a .spans .now) (a .globals .now) (a .builtins .now) (a .functions .now) (a .switches .now) (a .targets .now) (a .lookups .now) (a .values .now) (a .places .now) (a .hints .now) (a .noted .now) (a .labels .now) in
     compiled-then registers (a .words .now) (a .used .now) b (s .compile .result) _ (s .before .used-in .ensures) _ (s .compile .ensures)
-    _ (c .before .before .before .store-used .ensures) _ (c .answer-number .ensures)
+    _ (c .before .before .before .store-used .ensures) _ (c .number-of .ensures)
 
 pub agnulfrosc-compile-spec : {M : Type 1} → statement M
 agnulfrosc-compile-spec =
@@ -76,7 +76,7 @@ agnulfrosc-compile-spec =
     used-in-requires
     compile-requires
     store-used-requires
-    answer-number-requires
+    number-of-requires
     same-length
     same-length-2
     same-length-3

@@ -2,6 +2,7 @@
 use Prim.Native.Nat.{_≤_, _-_}
 use mathlib.Core.Path.{_≡_}
 use lib.ListN.{length}
+use native.Mathlib.Omega.{arith}
 use borrow.Author.Needs.{needs}
 use Rattle.alloc_vectors.proofs.pool_at.Statement.{statement}
 use Rattle.alloc_vectors.proofs.pool_at.Tie as tie
@@ -16,22 +17,22 @@ loop-holds : tie.Need-loop-holds Inv-loop μ-loop
 loop-holds c = search needs
 
 add-word : tie.Need-add-word Inv-loop μ-loop
-add-word c = search needs
+add-word c = omega arith
 
 word-requires : tie.Need-word-requires Inv-loop μ-loop
 word-requires c κs = search needs
 
 cast-regs : tie.Need-cast-regs Inv-loop μ-loop
-cast-regs c = search needs
+cast-regs c = omega arith
 
 array-write-regs : tie.Need-array-write-regs Inv-loop μ-loop
-array-write-regs c = search needs
+array-write-regs c = omega arith
 
 add-i : tie.Need-add-i Inv-loop μ-loop
-add-i c = search needs
+add-i c = omega arith
 
 loop-less : tie.Need-loop-less Inv-loop μ-loop
-loop-less c = search needs
+loop-less c = omega arith
 
 loop-again : tie.Need-loop-again Inv-loop μ-loop
 loop-again c = search needs

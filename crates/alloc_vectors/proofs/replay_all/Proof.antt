@@ -1,5 +1,6 @@
 -- Indexes and sums in range, by the bounds that the loop keeps.
 use Prim.Native.Nat.{_≤_, _<_, _-_}
+use native.Mathlib.Omega.{arith}
 use borrow.Author.Needs.{needs}
 use Rattle.alloc_vectors.proofs.replay_all.Statement.{statement}
 use Rattle.alloc_vectors.proofs.replay_all.Tie as tie
@@ -14,7 +15,7 @@ word-requires : tie.Need-word-requires Inv-loop μ-loop
 word-requires c κs = search needs
 
 cast-sequences : tie.Need-cast-sequences Inv-loop μ-loop
-cast-sequences c = search needs
+cast-sequences c = omega arith
 
 loop-holds : tie.Need-loop-holds Inv-loop μ-loop
 loop-holds c = search needs
@@ -32,16 +33,16 @@ replay-sequence-requires : tie.Need-replay-sequence-requires Inv-loop μ-loop
 replay-sequence-requires c κs = search needs
 
 add-calls : tie.Need-add-calls Inv-loop μ-loop
-add-calls c = search needs
+add-calls c = omega arith
 
 add-differ : tie.Need-add-differ Inv-loop μ-loop
-add-differ c = search needs
+add-differ c = omega arith
 
 add-done : tie.Need-add-done Inv-loop μ-loop
-add-done c = search needs
+add-done c = omega arith
 
 loop-less : tie.Need-loop-less Inv-loop μ-loop
-loop-less c = search needs
+loop-less c = omega arith
 
 loop-again : tie.Need-loop-again Inv-loop μ-loop
 loop-again c = search needs

@@ -3,6 +3,7 @@ use Prim.Native.Nat.{_≤_, _-_}
 use mathlib.Core.Path.{_≡_}
 use lib.ListN.{length}
 use mathlib.Core.Logic.{⊎-elim}
+use native.Mathlib.Omega.{arith}
 use borrow.Author.Needs.{needs}
 use Rattle.alloc_vectors.proofs.replay_calls.Statement.{statement}
 use Rattle.alloc_vectors.proofs.replay_calls.Tie as tie
@@ -20,10 +21,10 @@ loop-holds : tie.Need-loop-holds Inv-loop μ-loop
 loop-holds c = search needs
 
 mul-call-at : tie.Need-mul-call-at Inv-loop μ-loop
-mul-call-at c = search needs
+mul-call-at c = omega arith
 
 add-call-at : tie.Need-add-call-at Inv-loop μ-loop
-add-call-at c = search needs
+add-call-at c = omega arith
 
 call-at-requires : tie.Need-call-at-requires Inv-loop μ-loop
 call-at-requires c κs = search needs
@@ -32,13 +33,13 @@ step-requires : tie.Need-step-requires Inv-loop μ-loop
 step-requires c κs = search needs
 
 add-differ : tie.Need-add-differ Inv-loop μ-loop
-add-differ c = search needs
+add-differ c = omega arith
 
 add-i : tie.Need-add-i Inv-loop μ-loop
-add-i c = search needs
+add-i c = omega arith
 
 loop-less : tie.Need-loop-less Inv-loop μ-loop
-loop-less c = search needs
+loop-less c = omega arith
 
 loop-again : tie.Need-loop-again Inv-loop μ-loop
 loop-again c = ⊎-elim (λ w. search needs) (λ w. search needs) (c .if1 .came)

@@ -4,7 +4,7 @@ use Rattle.compact_vectors.proofs.no_ops.Statement.{statement}
 use Rattle.compact_vectors.proofs.no_ops.Tie as tie
 
 returns : tie.Need-returns
-returns c = made 65536
+returns c = made 65536 0
 
 pub no-ops-spec : {M : Type 1} → statement M
 no-ops-spec = tie.close (tie.spec returns)

@@ -4,7 +4,7 @@ use Rattle.compact_vectors.proofs.no_words.Statement.{statement}
 use Rattle.compact_vectors.proofs.no_words.Tie as tie
 
 returns : tie.Need-returns
-returns c = made 65536
+returns c = made 65536 0
 
 pub no-words-spec : {M : Type 1} → statement M
 no-words-spec = tie.close (tie.spec returns)

@@ -1,17 +1,15 @@
 -- Sums in range, by the bounds that the loop keeps.
 use Prim.Native.Nat.{_≤_, _<_, _-_}
-use mathlib.Core.Path.{_≡_}
-use lib.ListN.{length}
 use borrow.Author.Needs.{needs}
 use Rattle.compact_vectors.proofs.replay_all.Statement.{statement}
 use Rattle.compact_vectors.proofs.replay_all.Tie as tie
 
 abbrev Inv-loop : tie.InvT-loop
-Inv-loop text₀ programs done₀ total₀ differ₀ t7 text done total differ =
-    (done ≤ programs) × ((differ ≤ done) × ((total < 1000000000) × (length text ≡ length text₀)))
+Inv-loop programs done₀ total₀ differ₀ t6 done total differ =
+    (done ≤ programs) × ((differ ≤ done) × (total < 1000000000))
 
 abbrev μ-loop : tie.MeasureT-loop
-μ-loop text₀ programs done₀ total₀ differ₀ t7 text done total differ = programs - done
+μ-loop programs done₀ total₀ differ₀ t6 done total differ = programs - done
 
 next-word-requires : tie.Need-next-word-requires Inv-loop μ-loop
 next-word-requires c κs = search needs
@@ -28,14 +26,14 @@ slice-aggregate-write c = search needs
 write-requires : tie.Need-write-requires Inv-loop μ-loop
 write-requires c κs = search needs
 
-same-length : tie.Need-same-length Inv-loop μ-loop
-same-length c = search needs
-
 returns : tie.Need-returns Inv-loop μ-loop
 returns c = search needs
 
 with-program-requires : tie.Need-with-program-requires Inv-loop μ-loop
 with-program-requires c κs = search needs
+
+cast-total : tie.Need-cast-total Inv-loop μ-loop
+cast-total c = search needs
 
 add-total : tie.Need-add-total Inv-loop μ-loop
 add-total c = search needs
@@ -52,9 +50,6 @@ loop-again c = search needs
 report-requires : tie.Need-report-requires Inv-loop μ-loop
 report-requires c κs = search needs
 
-same-length-2 : tie.Need-same-length-2 Inv-loop μ-loop
-same-length-2 c = search needs
-
 returns-2 : tie.Need-returns-2 Inv-loop μ-loop
 returns-2 c = search needs
 
@@ -69,13 +64,12 @@ replay-all-spec =
     replay-program-requires
     slice-aggregate-write
     write-requires
-    same-length
     returns
     with-program-requires
+    cast-total
     add-total
     add-done
     loop-less
     loop-again
     report-requires
-    same-length-2
     returns-2)

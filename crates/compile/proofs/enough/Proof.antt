@@ -1,6 +1,7 @@
 -- The three tests joined, with the lengths of the buffers.
 use Rattle.input.specs.Layout.{functionId}
-use Rattle.compile.specs.Compile.{labelsFor, entryOk}
+use Rattle.used.specs.Used.{labelsFor}
+use Rattle.compile.specs.Compile.{entryOk}
 use denote.Ref.{now}
 use lib.Dec.{leb}
 use lib.ListN.{length}

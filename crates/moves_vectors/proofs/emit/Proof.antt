@@ -1,15 +1,9 @@
--- A part that fits is as long as it is said to be.
+-- Parts that fit are as long as they are said to be.
 use native.Mathlib.Omega.{arith}
 use lib.ListN.{length-take}
 use borrow.Author.Needs.{needs}
 use Rattle.moves_vectors.proofs.emit.Statement.{statement}
 use Rattle.moves_vectors.proofs.emit.Tie as tie
-
-returns : tie.Need-returns
-returns c = search needs
-
-returns-2 : tie.Need-returns-2
-returns-2 c = search needs
 
 slice-relend-prefix-emit-columns : tie.Need-slice-relend-prefix-emit-columns
 slice-relend-prefix-emit-columns c = search needs
@@ -32,15 +26,13 @@ same-length c = search needs
 same-length-2 : tie.Need-same-length-2
 same-length-2 c = search needs
 
-returns-3 : tie.Need-returns-3
-returns-3 c = search needs
+returns : tie.Need-returns
+returns c = search needs
 
 pub emit-spec : {M : Type 1} → statement M
 emit-spec =
     tie.close
     (tie.spec
-    returns
-    returns-2
     slice-relend-prefix-emit-columns
     slice-aggregate-emit-columns
     slice-relend-prefix-emit-columns-2
@@ -48,4 +40,4 @@ emit-spec =
     emit-columns-requires
     same-length
     same-length-2
-    returns-3)
+    returns)

@@ -5,24 +5,6 @@ use borrow.Author.Needs.{needs}
 use Rattle.places_vectors.proofs.call.Statement.{statement}
 use Rattle.places_vectors.proofs.call.Tie as tie
 
-refusal-requires : tie.Need-refusal-requires
-refusal-requires c κs = search needs
-
-returns : tie.Need-returns
-returns c = search needs
-
-refusal-requires-2 : tie.Need-refusal-requires-2
-refusal-requires-2 c κs = search needs
-
-returns-2 : tie.Need-returns-2
-returns-2 c = search needs
-
-refusal-requires-3 : tie.Need-refusal-requires-3
-refusal-requires-3 c κs = search needs
-
-returns-3 : tie.Need-returns-3
-returns-3 c = search needs
-
 slice-relend-prefix-places : tie.Need-slice-relend-prefix-places
 slice-relend-prefix-places c = search needs
 
@@ -44,9 +26,6 @@ slice-aggregate-places-3 c = simp length-take (omega arith)
 places-requires : tie.Need-places-requires
 places-requires c κs = search needs
 
-answer-of-requires : tie.Need-answer-of-requires
-answer-of-requires c κs = search needs
-
 same-length : tie.Need-same-length
 same-length c = search needs
 
@@ -56,19 +35,13 @@ same-length-2 c = search needs
 same-length-3 : tie.Need-same-length-3
 same-length-3 c = search needs
 
-returns-4 : tie.Need-returns-4
-returns-4 c = search needs
+returns : tie.Need-returns
+returns c = search needs
 
 pub call-spec : {M : Type 1} → statement M
 call-spec =
     tie.close
     (tie.spec
-    refusal-requires
-    returns
-    refusal-requires-2
-    returns-2
-    refusal-requires-3
-    returns-3
     slice-relend-prefix-places
     slice-aggregate-places
     slice-relend-prefix-places-2
@@ -76,8 +49,7 @@ call-spec =
     slice-relend-prefix-places-3
     slice-aggregate-places-3
     places-requires
-    answer-of-requires
     same-length
     same-length-2
     same-length-3
-    returns-4)
+    returns)

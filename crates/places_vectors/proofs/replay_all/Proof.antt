@@ -7,12 +7,11 @@ use Rattle.places_vectors.proofs.replay_all.Statement.{statement}
 use Rattle.places_vectors.proofs.replay_all.Tie as tie
 
 abbrev Inv-loop : tie.InvT-loop
-Inv-loop bytes₀ ws₀ functions₀ count done₀ values₀ differ₀ t9 bytes ws functions done values differ =
-    (done ≤ count) × ((values ≤ 512 * done) × ((differ ≤ done) × ((length bytes ≡ length bytes₀) × ((length ws ≡ length ws₀) × (length functions ≡ length functions₀)))))
+Inv-loop bytes₀ count done₀ values₀ differ₀ t7 bytes done values differ =
+    (done ≤ count) × ((values ≤ 512 * done) × ((differ ≤ done) × (length bytes ≡ length bytes₀)))
 
 abbrev μ-loop : tie.MeasureT-loop
-μ-loop bytes₀ ws₀ functions₀ count done₀ values₀ differ₀ t9 bytes ws functions done values differ =
-    count - done
+μ-loop bytes₀ count done₀ values₀ differ₀ t7 bytes done values differ = count - done
 
 next-word-requires : tie.Need-next-word-requires Inv-loop μ-loop
 next-word-requires c κs = search needs
@@ -31,12 +30,6 @@ write-requires c κs = search needs
 
 same-length : tie.Need-same-length Inv-loop μ-loop
 same-length c = search needs
-
-same-length-2 : tie.Need-same-length-2 Inv-loop μ-loop
-same-length-2 c = search needs
-
-same-length-3 : tie.Need-same-length-3 Inv-loop μ-loop
-same-length-3 c = search needs
 
 returns : tie.Need-returns Inv-loop μ-loop
 returns c = search needs
@@ -59,14 +52,8 @@ loop-again c = search needs
 report-requires : tie.Need-report-requires Inv-loop μ-loop
 report-requires c κs = search needs
 
-same-length-4 : tie.Need-same-length-4 Inv-loop μ-loop
-same-length-4 c = search needs
-
-same-length-5 : tie.Need-same-length-5 Inv-loop μ-loop
-same-length-5 c = search needs
-
-same-length-6 : tie.Need-same-length-6 Inv-loop μ-loop
-same-length-6 c = search needs
+same-length-2 : tie.Need-same-length-2 Inv-loop μ-loop
+same-length-2 c = search needs
 
 returns-2 : tie.Need-returns-2 Inv-loop μ-loop
 returns-2 c = search needs
@@ -83,8 +70,6 @@ replay-all-spec =
     slice-aggregate-write
     write-requires
     same-length
-    same-length-2
-    same-length-3
     returns
     add-values
     with-function-requires
@@ -92,7 +77,5 @@ replay-all-spec =
     loop-less
     loop-again
     report-requires
-    same-length-4
-    same-length-5
-    same-length-6
+    same-length-2
     returns-2)

@@ -19,26 +19,26 @@ returns c =
     let f = c .before .before .first-unfit .ensures in
     bad-word registers (now (a .words)) (now (a .ends)) (now (a .globals)) (a .used) _ (f .0) _ (f .1) (c .if1 .taken)
 
-used-ok-requires : tie.Need-used-ok-requires
-used-ok-requires c κs = search needs
+within-requires : tie.Need-within-requires
+within-requires c κs = search needs
 
 returns-2 : tie.Need-returns-2
 returns-2 c =
     let a = c .before .before .before .before .before .before .before .before .args in
     let f = c .before .before .before .before .first-unfit .ensures in
-    used-wrong registers (now (a .words)) (now (a .ends)) (now (a .globals)) (a .used) _ (f .0) (c .before .before .if1 .left) (sym (c .before .used-ok .ensures) ∙ not-true _ (c .if2 .taken))
+    used-wrong registers (now (a .words)) (now (a .ends)) (now (a .globals)) (a .used) _ (f .0) (c .before .before .if1 .left) (sym (c .before .within .ensures) ∙ not-true _ (c .if2 .taken))
 
 returns-3 : tie.Need-returns-3
 returns-3 c =
     let a = c .before .before .before .before .before .before .before .before .before .before .args in
     let f = c .before .before .before .before .before .before .first-unfit .ensures in
-    too-many registers (now (a .words)) (now (a .ends)) (now (a .globals)) (a .used) _ (f .0) _ (f .1) (sym (c .before .before .before .used-ok .ensures) ∙ not-false _ (c .before .before .if2 .left)) (c .if3 .taken)
+    too-many registers (now (a .words)) (now (a .ends)) (now (a .globals)) (a .used) _ (f .0) _ (f .1) (sym (c .before .before .before .within .ensures) ∙ not-false _ (c .before .before .if2 .left)) (c .if3 .taken)
 
 returns-4 : tie.Need-returns-4
 returns-4 c =
     let a = c .before .before .before .before .before .before .before .before .before .before .before .before .args in
     let f = c .before .before .before .before .before .before .before .before .first-unfit .ensures in
-    bad-shape registers (now (a .words)) (now (a .ends)) (now (a .globals)) (a .used) _ (f .0) _ (f .1) (sym (c .before .before .before .before .before .used-ok .ensures) ∙ not-false _ (c .before .before .before .before .if2 .left)) (c .if4 .taken)
+    bad-shape registers (now (a .words)) (now (a .ends)) (now (a .globals)) (a .used) _ (f .0) _ (f .1) (sym (c .before .before .before .before .before .within .ensures) ∙ not-false _ (c .before .before .before .before .if2 .left)) (c .if4 .taken)
 
 slice-aggregate-intern-in : tie.Need-slice-aggregate-intern-in
 slice-aggregate-intern-in c = search needs
@@ -48,7 +48,7 @@ intern-in-requires c κs =
     let a = c .before .before .before .before .before .before .before .before .before .before .before .before .before .before .args in
     let f = c .before .before .before .before .before .before .before .before .before .before .first-unfit .ensures in (
       none-unfit registers (now (a .words)) (now (a .ends)) _ (f .0) (c .before .before .before .before .before .before .before .before .if1 .left) (c .before .before .before .before .if3 .left) (c .before .before .if4 .left),
-      sym (c .before .before .before .before .before .before .before .used-ok .ensures) ∙ not-false _ (c .before .before .before .before .before .before .if2 .left),
+      sym (c .before .before .before .before .before .before .before .within .ensures) ∙ not-false _ (c .before .before .before .before .before .before .if2 .left),
       length-replicate {A = ℕ} 131068 0,
     )
 
@@ -64,7 +64,7 @@ intern-strings-spec =
     (tie.spec
     first-unfit-requires
     returns
-    used-ok-requires
+    within-requires
     returns-2
     returns-3
     returns-4
