@@ -5,7 +5,7 @@ use std::num::wrapping_add_u32;
 ghost use Prim.Native.Nat.{_≤_};
 ghost use lib.ListN.{length};
 
-// The words of a file, and its bytes, of which there may be too many.
+// The words of the longest file, and its bytes with room for 65,536 more: a file that is too long is told from one that is not.
 pub type Words = [u32; 262144];
 
 pub type Bytes = [u8; 1114112];

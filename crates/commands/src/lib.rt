@@ -27,6 +27,9 @@ use std::num::wrapping_sub_usize;
 use strings::Strings;
 ghost use Prim.Native.Nat.{_≤_};
 
+// Document 01's number for what finds no room.
+const NO_ROOM: u8 = 9;
+
 // The places of a function's values.
 type Places = [u32; 4096];
 
@@ -74,6 +77,15 @@ fn begun(number: u8, index: usize, globals: usize) -> State {
     }
 }
 
+// No program at all.
+fn without_room() -> State {
+    io::write_all(
+        STDERR_FILENO,
+        b"agnc: the functions have more strings than there is room for\n",
+    );
+    begun(NO_ROOM, 0, 0)
+}
+
 // The strings of all functions, before the first is compiled.
 fn with_strings(ws: &[u32], ends: &[u32], globals: &mut Globals) -> State {
     match strings::intern_strings(ws, ends, globals, 0) {
@@ -81,11 +93,11 @@ fn with_strings(ws: &[u32], ends: &[u32], globals: &mut Globals) -> State {
         Strings::BadWord(k) => begun(1, k, 0),
         Strings::TooMany(k) => begun(2, k, 0),
         Strings::BadShape(k) => begun(3, k, 0),
-        Strings::NoRoom => begun(9, 0, 0),
+        Strings::NoRoom => without_room(),
     }
 }
 
-// A function behind the program.
+// One more function behind the program.
 fn compile_words(
     ws: &[u32],
     table: &mut Table,
@@ -122,7 +134,7 @@ fn compile_words(
     )
 }
 
-// What the listing shows of function f.
+// What the listing shows of function f: its six words.
 fn note(facts: &mut Facts, f: usize, fact: [u64; 6]) {
     if f < 256 {
         base::copy64(facts, 6 * f, &fact);
@@ -138,7 +150,7 @@ fn is_unused(ws: &[u32], f: usize, facts: &mut Facts) -> bool {
     true
 }
 
-// The program with function f behind it. The next function's places are kept where those of its values end.
+// The program after function f. Its places are kept behind the others: as many as it has values, the next function's come over the rest.
 fn after(
     ws: &[u32],
     f: usize,
@@ -230,7 +242,7 @@ fn code(plain: bool, facts: &Facts, ops: &Ops, spans: &Spans, count: usize, n: u
     }
 }
 
-// A program of so many functions.
+// A program of so many functions, with these used lengths.
 fn show(
     plain: bool,
     count: usize,
@@ -255,7 +267,7 @@ fn show(
     listing::places(plain, facts, kept, count);
 }
 
-// A line of the plain form.
+// A refusal as a line of the plain form.
 fn refused_line(number: u8, f: usize, id: u32) {
     write(b"refused ");
     listing::refusal(STDOUT_FILENO, number);
@@ -264,7 +276,7 @@ fn refused_line(number: u8, f: usize, id: u32) {
     end();
 }
 
-// A refusal on standard error.
+// A refusal, as it is said on standard error.
 fn complain(number: u8, f: usize, id: u32) {
     io::write_all(STDERR_FILENO, b"agnc: refused: ");
     listing::refusal(STDERR_FILENO, number);
@@ -275,6 +287,7 @@ fn complain(number: u8, f: usize, id: u32) {
     io::write_all(STDERR_FILENO, b"\n");
 }
 
+// The refusal of function f, if there is one.
 fn refusal(plain: bool, ws: &[u32], ends: &[u32], number: u8, f: usize) {
     if number == 0 {
         return;
@@ -287,7 +300,7 @@ fn refusal(plain: bool, ws: &[u32], ends: &[u32], number: u8, f: usize) {
     complain(number, f, id);
 }
 
-// The program of these functions.
+// The program of these functions, as a listing or in the plain form.
 pub fn show_program(plain: bool, ws: &[u32], ends: &[u32], table: &mut Table) {
     let mut ops = [0u64; 65536];
     let mut spans = [0u32; 65536];
@@ -300,11 +313,7 @@ pub fn show_program(plain: bool, ws: &[u32], ends: &[u32], table: &mut Table) {
     let mut facts = [0u64; 1536];
     let mut kept = [0u32; 87424];
     let start = with_strings(ws, ends, &mut globals);
-    if start.number == 9 {
-        io::write_all(
-            STDERR_FILENO,
-            b"agnc: the functions have more strings than there is room for\n",
-        );
+    if start.number == NO_ROOM {
         return;
     }
     let state = compile_all(
@@ -355,6 +364,7 @@ fn judge_one(ws: &[u32], f: usize, table: &mut Table) {
     }
 }
 
+// Each function's number.
 pub fn judge_all(ws: &[u32], ends: &[u32], table: &mut Table) {
     let mut f = 0;
     while f < ends.len() {

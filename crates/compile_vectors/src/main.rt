@@ -3,14 +3,15 @@
 // past that: the answer, the used lengths and every buffer have to be as the Rust leaves the program after it, so the next function starts where
 // this one ended. Then it is compiled again in exactly enough room, and for each buffer that it adds to in one word less, which is refused.
 // Strings that are interned before the first function stand in the globals from the beginning: another program replays the entry for them.
-use compile::Answer;
 use compile::Compiled;
+use libc::STDOUT_FILENO;
 use lists::Used;
 ghost use mathlib.Core.Path.{_≡_};
 ghost use Prim.Native.Nat.{_≤_, _<_};
 ghost use lib.ListN.{length};
+ghost use Rattle.compile_vectors.specs.Lending.{Fits, WholeLists, WholeTables};
 
-// Sums end here.
+// Sums and products are of numbers up to this.
 const MOST: usize = 1000000;
 
 // No list of the text, and so no number of it that counts, is longer.
@@ -21,44 +22,21 @@ const MARK: u32 = 999999999;
 
 const WIDE_MARK: u64 = 999999999;
 
-// The buffers in the order in which `compile` takes them.
-const KINDS: usize = 13;
+// The calls of a function: 0 has room to spare, 1 exactly enough, and from 2 on each buffer in turn is a word short, in the order in which `compile`
+// takes them.
+const CALLS: usize = 15;
 
-const FUNCTIONS: usize = 0;
+const EXACT: usize = 1;
 
-const OPS: usize = 1;
+// The number of a refusal for too little room.
+const NO_ROOM: usize = 9;
 
-const SPANS: usize = 2;
+// The differences of a call are a sum: 1 for the answer, 2 for the used lengths, 4 for the function table, and twice as much for each next buffer.
+const TABLE: usize = 4;
 
-const GLOBALS: usize = 3;
-
-const BUILTINS: usize = 4;
-
-const SWITCHES: usize = 5;
-
-const TARGETS: usize = 6;
-
-const LOOKUPS: usize = 7;
-
-const VALUES: usize = 8;
-
-const PLACES: usize = 9;
-
-const HINTS: usize = 10;
-
-const NOTED: usize = 11;
-
-const LABELS: usize = 12;
-
-// The words of the text at which a program's lists start, how long its function table is, how many functions it has, and whether they are
-// compiled in little room too.
-struct Program {
-    strings: usize,
-    tried: bool,
-    table: usize,
+// A number for each buffer.
+struct PerBuffer {
     functions: usize,
-    before: usize,
-    after: usize,
     ops: usize,
     spans: usize,
     globals: usize,
@@ -67,15 +45,36 @@ struct Program {
     targets: usize,
     lookups: usize,
     values: usize,
+    places: usize,
+    hints: usize,
+    noted: usize,
+    labels: usize,
+}
+
+// A program of the text: how many strings it begins with, whether its functions are compiled in little room too, how many words its function table
+// has, how many functions there are, and the words at which the lists, the function table after them and the functions start.
+struct Program {
+    strings: usize,
+    tried: bool,
+    table: usize,
+    functions: usize,
+    start: PerBuffer,
+    end: usize,
     first: usize,
 }
 
-// A function of the text: how many words it has, how many of the function table it needs, the number that comes back, how many map words it has,
-// the used lengths before and after it, and where its words, its map words and the next function start.
+// A function of the text: its number in the table, whether it is marked unused, how many words it has; how many words of the function table the
+// others need, and how many it; its values and labels, none if it is refused; the number that comes back, how many map words it has, the used
+// lengths before and after it, and where its words, its map words and the next function start.
 struct Function {
+    id: usize,
+    unused: bool,
     words: usize,
+    others: usize,
     table: usize,
-    number: u32,
+    values: usize,
+    labels: usize,
+    number: usize,
     mapped: usize,
     before: Used,
     used: Used,
@@ -84,12 +83,20 @@ struct Function {
     next: usize,
 }
 
-// What has to come back from a call: the number, the used lengths, how many map words; and the word that stands past each used length.
-struct Wanted {
-    number: u32,
-    used: Used,
-    mapped: usize,
-    rest: u32,
+// The buffers of the function table, the code and the lists, and those of the tables.
+struct ListBuffers {
+    functions: [u64; 64],
+    ops: [u64; 2048],
+    spans: [u32; 2048],
+    globals: [u64; 256],
+    builtins: [u32; 32],
+}
+
+struct TableBuffers {
+    switches: [u64; 64],
+    targets: [u32; 4352],
+    lookups: [u64; 64],
+    values: [u64; 8448],
 }
 
 // How many functions were compiled and how many of them differ; how many calls in exactly enough room and in one word less, and how many of them
@@ -103,172 +110,29 @@ struct Tally {
     wrong: usize,
 }
 
-// Which call: program, function, and 0 for room to spare, 1 for exactly enough, 2 and more for a word less in that buffer.
-struct Which {
-    program: usize,
-    function: usize,
-    call: u32,
-}
-
-// The next word of the file, 0 past its end.
-fn next_word() -> u32 {
-    let mut bytes = [0u8; 4];
-    let n = io::read_full(0, &mut bytes);
-    replay::word(&bytes[..n], 0)
-}
-
-// The next n bytes of the file: are they there, and is there room for them?
-fn next_bytes(bytes: &mut [u8], n: usize) -> bool {
-    if bytes.len() < n {
-        return false;
-    }
-    let got = io::read_full(0, &mut bytes[..n]);
-    got == n
-}
-
-// Where a function starts, for its entry in the table.
-fn pc(n: usize) -> u32 {
-    if MOST < n { 0 } else { n as u32 }
-}
-
-// Sums and products that stay as they are where the file has too large a number.
+// Sums and products that fit whatever the file has.
 fn sum(a: usize, b: usize) -> usize {
-    if MOST < a {
-        return a;
-    }
-    if MOST < b {
-        return b;
-    }
-    a + b
+    replay::least(a, MOST) + replay::least(b, MOST)
 }
 
-fn doubled(n: usize) -> usize {
-    if MOST < n { n } else { 2 * n }
+fn product(a: usize, b: usize) -> usize {
+    replay::least(a, MOST) * replay::least(b, MOST)
 }
 
-fn tripled(n: usize) -> usize {
-    if MOST < n { n } else { 3 * n }
+// The first number if it is so, else the second.
+fn either(so: bool, a: usize, b: usize) -> usize {
+    if so { a } else { b }
 }
 
-fn fivefold(n: usize) -> usize {
-    if MOST < n { n } else { 5 * n }
-}
-
-// Word i of a list that starts at word `at` of the text, 0 past its end.
-fn word_at(text: &[u8], at: usize, i: usize) -> u32 {
-    if MOST < at {
-        return 0;
-    }
-    if MOST < i {
-        return 0;
-    }
-    replay::word(text, at + i)
-}
-
-fn wide_at(text: &[u8], at: usize, i: usize) -> u64 {
-    if MOST < at {
-        return 0;
-    }
-    if MOST < i {
-        return 0;
-    }
-    replay::wide(text, at + 2 * i)
-}
-
+// Entry i of a list that starts at word `at` of the text, if it is a count.
 fn count_at(text: &[u8], at: usize, i: usize) -> usize {
-    least(word_at(text, at, i) as usize, LONGEST)
-}
-
-// The first n words of a list of the text, as the first of a buffer.
-fn load32(text: &[u8], at: usize, ws: &mut [u32], n: usize) {
-    let mut i = 0;
-    while i < n {
-        base::set32(ws, i, word_at(text, at, i));
-        i += 1;
-    }
-}
-
-fn load64(text: &[u8], at: usize, ws: &mut [u64], n: usize) {
-    let mut i = 0;
-    while i < n {
-        base::set64(ws, i, wide_at(text, at, i));
-        i += 1;
-    }
-}
-
-// What has to stand at i: the list of the text up to `used`, then the same word everywhere.
-fn want32(text: &[u8], at: usize, used: usize, rest: u32, i: usize) -> u32 {
-    if i < used { word_at(text, at, i) } else { rest }
-}
-
-fn want64(text: &[u8], at: usize, used: usize, rest: u32, i: usize) -> u64 {
-    if i < used {
-        wide_at(text, at, i)
-    } else {
-        rest as u64
-    }
-}
-
-// Are the first n words of a buffer the list of the text up to `used`, and then the same word everywhere?
-fn right32(text: &[u8], at: usize, used: usize, rest: u32, ws: &[u32], n: usize) -> bool {
-    let mut i = 0;
-    while i < n {
-        if base::get32(ws, i) != want32(text, at, used, rest, i) {
-            return false;
-        }
-        i += 1;
-    }
-    true
-}
-
-fn right64(text: &[u8], at: usize, used: usize, rest: u32, ws: &[u64], n: usize) -> bool {
-    let mut i = 0;
-    while i < n {
-        if base::get64(ws, i) != want64(text, at, used, rest, i) {
-            return false;
-        }
-        i += 1;
-    }
-    true
-}
-
-// Are the first n words the same?
-fn equal64(a: &[u64], b: &[u64], n: usize) -> bool {
-    let mut i = 0;
-    while i < n {
-        if base::get64(a, i) != base::get64(b, i) {
-            return false;
-        }
-        i += 1;
-    }
-    true
-}
-
-// What differs: the first thing of two, 0 for none.
-fn first(a: u32, b: u32) -> u32 {
-    if a == 0 { b } else { a }
-}
-
-fn unless(right: bool, what: u32) -> u32 {
-    if right { 0 } else { what }
-}
-
-// A part is never longer than its buffer.
-fn least(a: usize, b: usize) -> usize
-    ensures { λ r. ⌜ (r ≤ a) × (r ≤ b) ⌝ }
-{
-    if a < b { a } else { b }
+    replay::least(replay::word_in(text, at, i) as usize, LONGEST)
 }
 
 // The head of the program in the text.
 fn program_of(text: &[u8]) -> Program {
-    Program {
-        strings: count_at(text, 0, 1),
-        tried: word_at(text, 0, 2) == 1,
-        table: count_at(text, 0, 3),
-        functions: least(count_at(text, 0, 4), 64),
-        before: count_at(text, 0, 5),
-        after: count_at(text, 0, 6),
+    let start = PerBuffer {
+        functions: count_at(text, 0, 5),
         ops: count_at(text, 0, 7),
         spans: count_at(text, 0, 8),
         globals: count_at(text, 0, 9),
@@ -277,20 +141,19 @@ fn program_of(text: &[u8]) -> Program {
         targets: count_at(text, 0, 12),
         lookups: count_at(text, 0, 13),
         values: count_at(text, 0, 14),
+        places: 0,
+        hints: 0,
+        noted: 0,
+        labels: 0,
+    };
+    Program {
+        strings: count_at(text, 0, 1),
+        tried: count_at(text, 0, 2) == 1,
+        table: count_at(text, 0, 3),
+        functions: count_at(text, 0, 4),
+        start: start,
+        end: count_at(text, 0, 6),
         first: count_at(text, 0, 15),
-    }
-}
-
-// The used lengths before the first function.
-fn at_first(p: Program) -> Used {
-    Used {
-        ops: 0,
-        globals: p.strings,
-        builtins: 0,
-        switches: 0,
-        targets: 0,
-        lookups: 0,
-        values: 0,
     }
 }
 
@@ -307,17 +170,35 @@ fn used_at(text: &[u8], at: usize) -> Used {
     }
 }
 
+// Two labels for each block, and one for each pad that a block may have.
+fn labels_for(blocks: usize, edges: usize) -> usize {
+    sum(
+        product(2, blocks),
+        replay::least(product(blocks, edges), 32767),
+    )
+}
+
 // The function at word `at` of the text, behind such used lengths.
 fn function_at(text: &[u8], at: usize, before: Used) -> Function {
     let words = count_at(text, at, 0);
+    let table = count_at(text, at, 1);
+    let number = count_at(text, at, 2);
     let mapped = count_at(text, at, 3);
     let start = sum(at, 11);
     let map = sum(start, words);
+    let id = count_at(text, start, 0);
+    let others = either(table == sum(id, 1), id, table);
+    let labels = labels_for(count_at(text, start, 4), count_at(text, start, 6));
     let used = used_at(text, at);
     Function {
+        id: id,
+        unused: count_at(text, start, 2) != 0,
         words: words,
-        table: count_at(text, at, 1),
-        number: word_at(text, at, 2),
+        others: others,
+        table: either(number == 0, table, others),
+        values: either(number == 0, count_at(text, start, 3), 0),
+        labels: either(number == 0, labels, 0),
+        number: number,
         mapped: mapped,
         before: before,
         used: used,
@@ -327,143 +208,281 @@ fn function_at(text: &[u8], at: usize, before: Used) -> Function {
     }
 }
 
-// Document 01's number of an answer.
-fn number_of(a: Answer) -> u32 {
-    match a {
-        Answer::Done => 0,
-        Answer::BadWord => 1,
-        Answer::TooMany => 2,
-        Answer::BadShape => 3,
-        Answer::DoubleDef => 4,
-        Answer::BadInterval => 5,
-        Answer::UnknownFunc => 6,
-        Answer::BadKey => 7,
-        Answer::NoSlot => 8,
-        Answer::NoRoom => 9,
+// The words of buffer i that are lent in call k if n are needed: all that it has, exactly as many, or one less.
+fn lent(n: usize, most: usize, i: usize, k: usize) -> usize
+    ensures { λ r. ⌜ r ≤ most ⌝ }
+{
+    if k == 0 {
+        return most;
+    }
+    let words = replay::least(n, most);
+    if words == 0 {
+        return 0;
+    }
+    if k == i { words - 1 } else { words }
+}
+
+// The words that are lent in call k for such used lengths, so many words of the function table, values and labels.
+fn words_for(table: usize, u: Used, values: usize, labels: usize, k: usize) -> PerBuffer
+    ensures { λ r. ⌜ Fits r ⌝ }
+{
+    PerBuffer {
+        functions: lent(table, replay::least(table, 64), 2, k),
+        ops: lent(u.ops, 2048, 3, k),
+        spans: lent(u.ops, 2048, 4, k),
+        globals: lent(product(2, u.globals), 256, 5, k),
+        builtins: lent(u.builtins, 32, 6, k),
+        switches: lent(product(3, u.switches), 64, 7, k),
+        targets: lent(u.targets, 4352, 8, k),
+        lookups: lent(product(5, u.lookups), 64, 9, k),
+        values: lent(product(2, u.values), 8448, 10, k),
+        places: lent(values, 384, 11, k),
+        hints: lent(values, 384, 12, k),
+        noted: lent(values, 384, 13, k),
+        labels: lent(labels, 3200, 14, k),
     }
 }
 
-// What has to come back with this number: after 0 the program with the function, and the marks past it; else the program before it, and zeros.
-fn wanted_of(f: Function, number: u32) -> Wanted {
-    if number == 0 {
-        let used = f.used;
-        return Wanted {
-            number: number,
-            used: used,
-            mapped: f.mapped,
-            rest: MARK,
-        };
+// How many calls there are of a function.
+fn calls_of(p: Program, f: Function) -> usize
+    ensures { λ r. ⌜ r ≤ 15 ⌝ }
+{
+    if f.unused {
+        return 0;
     }
-    let before = f.before;
-    Wanted {
-        number: number,
-        used: before,
-        mapped: 0,
-        rest: 0,
+    if !p.tried {
+        return 1;
     }
+    if f.number != 0 { 2 } else { CALLS }
 }
 
-// The function's labels: two for each block, and one for each pad that a block may have.
-fn labels_for(ws: &[u32]) -> usize {
-    let blocks = base::get32(ws, 4) as usize;
-    let edges = base::get32(ws, 6) as usize;
-    2 * blocks + least(blocks * edges, 32767)
-}
-
-// How many words of each buffer are used before the function; of the function table what the others need, where a word less shows nothing.
-fn words_before(f: Function, id: usize) -> [usize; KINDS] {
-    let u = f.before;
-    let table = if f.table == sum(id, 1) { id } else { f.table };
+// For each call what the function has of the buffer that is short in it; the first two calls have none.
+fn counts(first: usize, table: usize, u: Used, values: usize, labels: usize) -> [usize; CALLS] {
     [
+        first,
+        first,
         table,
         u.ops,
         u.ops,
-        doubled(u.globals),
+        u.globals,
         u.builtins,
-        tripled(u.switches),
+        u.switches,
         u.targets,
-        fivefold(u.lookups),
-        doubled(u.values),
-        0,
-        0,
-        0,
-        0,
-    ]
-}
-
-// How many words of each buffer the function takes.
-fn words_after(f: Function, ws: &[u32]) -> [usize; KINDS] {
-    let u = f.used;
-    let values = base::get32(ws, 3) as usize;
-    [
-        f.table,
-        u.ops,
-        u.ops,
-        doubled(u.globals),
-        u.builtins,
-        tripled(u.switches),
-        u.targets,
-        fivefold(u.lookups),
-        doubled(u.values),
+        u.lookups,
+        u.values,
         values,
         values,
         values,
-        labels_for(ws),
+        labels,
     ]
 }
 
-// All of every buffer, but of the function table what the program has.
-fn words_to_spare(p: Program) -> [usize; KINDS] {
-    [
-        p.table,
-        2048,
-        2048,
-        256,
-        32,
-        64,
-        4352,
-        64,
-        8448,
-        384,
-        384,
-        384,
-        3200,
-    ]
+// Does the function add to the buffer that is short in call k?
+fn adds_to(f: Function, k: usize) -> bool
+    requires { ⌜ k < 15 ⌝ }
+{
+    let u = f.before;
+    let v = f.used;
+    let before = counts(0, f.others, u, 0, 0);
+    let after = counts(1, f.table, v, f.values, f.labels);
+    before[k] < after[k]
 }
 
-// The function compiled in so many of the first words of the buffers.
-fn call(
+// The program before the function: its function table, code and lists, and its tables.
+fn load_lists(text: &[u8], table: [u64; 64], start: PerBuffer, n: PerBuffer) -> ListBuffers
+    ensures { λ r. ⌜ WholeLists r ⌝ }
+{
+    let mut ops = [WIDE_MARK; 2048];
+    let mut spans = [MARK; 2048];
+    let mut globals = [WIDE_MARK; 256];
+    let mut builtins = [MARK; 32];
+    replay::load64(text, start.ops, &mut ops, n.ops);
+    replay::load32(text, start.spans, &mut spans, n.spans);
+    replay::load64(text, start.globals, &mut globals, n.globals);
+    replay::load32(text, start.builtins, &mut builtins, n.builtins);
+    ListBuffers {
+        functions: table,
+        ops: ops,
+        spans: spans,
+        globals: globals,
+        builtins: builtins,
+    }
+}
+
+fn load_tables(text: &[u8], start: PerBuffer, n: PerBuffer) -> TableBuffers
+    ensures { λ r. ⌜ WholeTables r ⌝ }
+{
+    let mut switches = [WIDE_MARK; 64];
+    let mut targets = [MARK; 4352];
+    let mut lookups = [WIDE_MARK; 64];
+    let mut values = [WIDE_MARK; 8448];
+    replay::load64(text, start.switches, &mut switches, n.switches);
+    replay::load32(text, start.targets, &mut targets, n.targets);
+    replay::load64(text, start.lookups, &mut lookups, n.lookups);
+    replay::load64(text, start.values, &mut values, n.values);
+    TableBuffers {
+        switches: switches,
+        targets: targets,
+        lookups: lookups,
+        values: values,
+    }
+}
+
+// The function table after the function: its entry says where its code starts, unless it is refused or unused.
+fn table_after(table: [u64; 64], f: Function, number: usize) -> [u64; 64]
+    ensures { λ r. ⌜ length r ≡ 64 ⌝ }
+{
+    if f.unused | (number != 0) {
+        return table;
+    }
+    let mut after = table;
+    let u = f.before;
+    let pc = replay::least(u.ops, LONGEST) as u32;
+    base::set64(&mut after, f.id, program::bytecode_at(pc));
+    after
+}
+
+// The differences in the answer, the used lengths and the function table;
+fn wrong_answer(
+    c: Compiled,
+    number: usize,
+    b: Used,
+    functions: &[u64; 64],
+    entered: &[u64; 64],
+    n: usize,
+) -> usize {
+    let answer = c.answer;
+    let a = c.used;
+    let code = (a.ops == b.ops) & (a.globals == b.globals) & (a.builtins == b.builtins);
+    let switches = (a.switches == b.switches) & (a.targets == b.targets);
+    let lookups = (a.lookups == b.lookups) & (a.values == b.values);
+    let answered = compile::number_of(answer) as usize;
+    either(answered == number, 0, 1)
+        | either(code & switches & lookups, 0, 2)
+        | either(replay::same64(functions, entered, n), 0, TABLE)
+}
+
+// the code and the lists;
+fn wrong_lists(
+    text: &[u8],
+    start: PerBuffer,
+    used: PerBuffer,
+    rest: u32,
+    n: PerBuffer,
+    ops: &[u64; 2048],
+    spans: &[u32; 2048],
+    globals: &[u64; 256],
+    builtins: &[u32; 32],
+) -> usize {
+    let wide = rest as u64;
+    let o = replay::right64(text, start.ops, used.ops, wide, ops, n.ops);
+    let s = replay::right32(text, start.spans, used.spans, rest, spans, n.spans);
+    let g = replay::right64(text, start.globals, used.globals, wide, globals, n.globals);
+    let b = replay::right32(
+        text,
+        start.builtins,
+        used.builtins,
+        rest,
+        builtins,
+        n.builtins,
+    );
+    either(o, 0, 8) | either(s, 0, 16) | either(g, 0, 32) | either(b, 0, 64)
+}
+
+// the tables;
+fn wrong_tables(
+    text: &[u8],
+    start: PerBuffer,
+    used: PerBuffer,
+    rest: u32,
+    n: PerBuffer,
+    switches: &[u64; 64],
+    targets: &[u32; 4352],
+    lookups: &[u64; 64],
+    values: &[u64; 8448],
+) -> usize {
+    let wide = rest as u64;
+    let s = replay::right64(
+        text,
+        start.switches,
+        used.switches,
+        wide,
+        switches,
+        n.switches,
+    );
+    let t = replay::right32(text, start.targets, used.targets, rest, targets, n.targets);
+    let l = replay::right64(text, start.lookups, used.lookups, wide, lookups, n.lookups);
+    let v = replay::right64(text, start.values, used.values, wide, values, n.values);
+    either(s, 0, 128) | either(t, 0, 256) | either(l, 0, 512) | either(v, 0, 1024)
+}
+
+// the places and the work room.
+fn wrong_room(
+    text: &[u8],
+    start: PerBuffer,
+    used: PerBuffer,
+    rest: u32,
+    n: PerBuffer,
+    places: &[u32; 384],
+    hints: &[u32; 384],
+    noted: &[u64; 384],
+    labels: &[u64; 3200],
+) -> usize {
+    let p = replay::right32(text, start.places, used.places, rest, places, n.places);
+    let h = replay::zeros32(hints, n.hints);
+    let k = replay::zeros64(noted, n.noted);
+    let l = replay::zeros64(labels, n.labels);
+    either(p, 0, 2048) | either(h, 0, 4096) | either(k, 0, 8192) | either(l, 0, 16384)
+}
+
+// The differences of a call at such used lengths: it has to answer this number, the wanted used lengths and a function table like the entered one.
+// Of each buffer: where its list starts in the text, how many words are used before the call and after it, and how many are lent; the words past
+// the used ones have to be `rest`.
+fn trial(
+    text: &[u8],
     ws: &[u32],
-    functions: &mut [u64],
-    ops: &mut [u64],
-    spans: &mut [u32],
-    globals: &mut [u64],
-    builtins: &mut [u32],
-    switches: &mut [u64],
-    targets: &mut [u32],
-    lookups: &mut [u64],
-    values: &mut [u64],
-    places: &mut [u32],
-    hints: &mut [u32],
-    noted: &mut [u64],
-    labels: &mut [u64],
-    lent: [usize; KINDS],
+    table: [u64; 64],
+    entered: [u64; 64],
     used: Used,
-) -> Compiled {
-    let f = least(lent[FUNCTIONS], functions.len());
-    let o = least(lent[OPS], ops.len());
-    let s = least(lent[SPANS], spans.len());
-    let g = least(lent[GLOBALS], globals.len());
-    let b = least(lent[BUILTINS], builtins.len());
-    let w = least(lent[SWITCHES], switches.len());
-    let t = least(lent[TARGETS], targets.len());
-    let k = least(lent[LOOKUPS], lookups.len());
-    let v = least(lent[VALUES], values.len());
-    let p = least(lent[PLACES], places.len());
-    let h = least(lent[HINTS], hints.len());
-    let n = least(lent[NOTED], noted.len());
-    let l = least(lent[LABELS], labels.len());
-    compile::compile(
+    wanted: Used,
+    number: usize,
+    rest: u32,
+    start: PerBuffer,
+    before: PerBuffer,
+    after: PerBuffer,
+    lent: PerBuffer,
+) -> usize
+    requires { ⌜ Fits lent ⌝ }
+{
+    let lists = load_lists(text, table, start, before);
+    let tables = load_tables(text, start, before);
+    let mut functions = lists.functions;
+    let mut ops = lists.ops;
+    let mut spans = lists.spans;
+    let mut globals = lists.globals;
+    let mut builtins = lists.builtins;
+    let mut switches = tables.switches;
+    let mut targets = tables.targets;
+    let mut lookups = tables.lookups;
+    let mut values = tables.values;
+    let mut places = [MARK; 384];
+    let mut hints = [MARK; 384];
+    let mut noted = [WIDE_MARK; 384];
+    let mut labels = [WIDE_MARK; 3200];
+    let f = lent.functions;
+    let o = lent.ops;
+    let s = lent.spans;
+    let g = lent.globals;
+    let b = lent.builtins;
+    let w = lent.switches;
+    let t = lent.targets;
+    let k = lent.lookups;
+    let v = lent.values;
+    let p = lent.places;
+    let h = lent.hints;
+    let n = lent.noted;
+    let l = lent.labels;
+    let c = compile::compile(
         ws,
         &mut functions[..f],
         &mut ops[..o],
@@ -479,551 +498,225 @@ fn call(
         &mut noted[..n],
         &mut labels[..l],
         used,
-    )
-}
-
-// The program before the function: its code and lists, and its tables.
-fn load_lists(
-    text: &[u8],
-    p: Program,
-    u: Used,
-    ops: &mut [u64],
-    spans: &mut [u32],
-    globals: &mut [u64],
-    builtins: &mut [u32],
-) {
-    load64(text, p.ops, ops, u.ops);
-    load32(text, p.spans, spans, u.ops);
-    load64(text, p.globals, globals, doubled(u.globals));
-    load32(text, p.builtins, builtins, u.builtins);
-}
-
-fn load_tables(
-    text: &[u8],
-    p: Program,
-    u: Used,
-    switches: &mut [u64],
-    targets: &mut [u32],
-    lookups: &mut [u64],
-    values: &mut [u64],
-) {
-    load64(text, p.switches, switches, tripled(u.switches));
-    load32(text, p.targets, targets, u.targets);
-    load64(text, p.lookups, lookups, fivefold(u.lookups));
-    load64(text, p.values, values, doubled(u.values));
-}
-
-// What is wrong with the answer, with the code and the lists, with the tables, with the places and the work room.
-fn wrong_answer(c: Compiled, w: Wanted) -> u32 {
-    let answer = c.answer;
-    let a = c.used;
-    let b = w.used;
-    let code = (a.ops == b.ops) & (a.globals == b.globals) & (a.builtins == b.builtins);
-    let switches = (a.switches == b.switches) & (a.targets == b.targets);
-    let lookups = (a.lookups == b.lookups) & (a.values == b.values);
-    first(
-        unless(number_of(answer) == w.number, 1),
-        unless(code & switches & lookups, 2),
-    )
-}
-
-fn wrong_code(
-    text: &[u8],
-    p: Program,
-    w: Wanted,
-    lent: [usize; KINDS],
-    ops: &[u64],
-    spans: &[u32],
-) -> u32 {
-    let u = w.used;
-    let a = right64(text, p.ops, u.ops, w.rest, ops, lent[OPS]);
-    let b = right32(text, p.spans, u.ops, w.rest, spans, lent[SPANS]);
-    first(unless(a, 4), unless(b, 5))
-}
-
-fn wrong_lists(
-    text: &[u8],
-    p: Program,
-    w: Wanted,
-    lent: [usize; KINDS],
-    globals: &[u64],
-    builtins: &[u32],
-) -> u32 {
-    let u = w.used;
-    let pairs = doubled(u.globals);
-    let a = right64(text, p.globals, pairs, w.rest, globals, lent[GLOBALS]);
-    let b = right32(
-        text,
-        p.builtins,
-        u.builtins,
-        w.rest,
-        builtins,
-        lent[BUILTINS],
     );
-    first(unless(a, 6), unless(b, 7))
-}
-
-fn wrong_switches(
-    text: &[u8],
-    p: Program,
-    w: Wanted,
-    lent: [usize; KINDS],
-    switches: &[u64],
-    targets: &[u32],
-) -> u32 {
-    let u = w.used;
-    let heads = tripled(u.switches);
-    let a = right64(text, p.switches, heads, w.rest, switches, lent[SWITCHES]);
-    let b = right32(text, p.targets, u.targets, w.rest, targets, lent[TARGETS]);
-    first(unless(a, 8), unless(b, 9))
-}
-
-fn wrong_lookups(
-    text: &[u8],
-    p: Program,
-    w: Wanted,
-    lent: [usize; KINDS],
-    lookups: &[u64],
-    values: &[u64],
-) -> u32 {
-    let u = w.used;
-    let heads = fivefold(u.lookups);
-    let pairs = doubled(u.values);
-    let a = right64(text, p.lookups, heads, w.rest, lookups, lent[LOOKUPS]);
-    let b = right64(text, p.values, pairs, w.rest, values, lent[VALUES]);
-    first(unless(a, 10), unless(b, 11))
-}
-
-fn wrong_room(
-    text: &[u8],
-    map: usize,
-    w: Wanted,
-    lent: [usize; KINDS],
-    places: &[u32],
-    hints: &[u32],
-    noted: &[u64],
-    labels: &[u64],
-) -> u32 {
-    let a = right32(text, map, w.mapped, w.rest, places, lent[PLACES]);
-    let b = right32(text, 0, 0, 0, hints, lent[HINTS]);
-    let c = right64(text, 0, 0, 0, noted, lent[NOTED]);
-    let d = right64(text, 0, 0, 0, labels, lent[LABELS]);
-    let work = first(unless(c, 14), unless(d, 15));
-    first(first(unless(a, 12), unless(b, 13)), work)
-}
-
-// The function table is the one after the function, or after a refusal the one before it.
-fn wrong_table(w: Wanted, n: usize, functions: &[u64], table: &[u64], next: &[u64]) -> u32 {
-    if w.number == 0 {
-        unless(equal64(functions, next, n), 3)
-    } else {
-        unless(equal64(functions, table, n), 3)
-    }
-}
-
-// One call in such room, which has to answer this number. What differs: 0 for nothing, 1 the answer, 2 the used lengths, 3 and more a buffer.
-fn trial(
-    text: &[u8],
-    p: Program,
-    f: Function,
-    ws: &[u32],
-    table: &[u64],
-    next: &[u64],
-    lent: [usize; KINDS],
-    number: u32,
-) -> u32 {
-    let mut functions = [0u64; 64];
-    let mut ops = [WIDE_MARK; 2048];
-    let mut spans = [MARK; 2048];
-    let mut globals = [WIDE_MARK; 256];
-    let mut builtins = [MARK; 32];
-    let mut switches = [WIDE_MARK; 64];
-    let mut targets = [MARK; 4352];
-    let mut lookups = [WIDE_MARK; 64];
-    let mut values = [WIDE_MARK; 8448];
-    let mut places = [MARK; 384];
-    let mut hints = [MARK; 384];
-    let mut noted = [WIDE_MARK; 384];
-    let mut labels = [WIDE_MARK; 3200];
-    let before = f.before;
-    base::copy64(&mut functions, 0, table);
-    load_lists(
+    let answer = wrong_answer(c, number, wanted, &functions, &entered, f);
+    let code = wrong_lists(
         text,
-        p,
-        before,
-        &mut ops,
-        &mut spans,
-        &mut globals,
-        &mut builtins,
-    );
-    load_tables(
-        text,
-        p,
-        before,
-        &mut switches,
-        &mut targets,
-        &mut lookups,
-        &mut values,
-    );
-    let c = call(
-        ws,
-        &mut functions,
-        &mut ops,
-        &mut spans,
-        &mut globals,
-        &mut builtins,
-        &mut switches,
-        &mut targets,
-        &mut lookups,
-        &mut values,
-        &mut places,
-        &mut hints,
-        &mut noted,
-        &mut labels,
+        start,
+        after,
+        rest,
         lent,
-        before,
+        &ops,
+        &spans,
+        &globals,
+        &builtins,
     );
-    let w = wanted_of(f, number);
-    let answer = wrong_answer(c, w);
-    let own = wrong_table(w, lent[FUNCTIONS], &functions, table, next);
-    let code = wrong_code(text, p, w, lent, &ops, &spans);
-    let lists = wrong_lists(text, p, w, lent, &globals, &builtins);
-    let switched = wrong_switches(text, p, w, lent, &switches, &targets);
-    let looked = wrong_lookups(text, p, w, lent, &lookups, &values);
-    let room = wrong_room(text, f.map, w, lent, &places, &hints, &noted, &labels);
-    let program = first(first(code, lists), first(switched, looked));
-    first(first(answer, own), first(program, room))
+    let switched = wrong_tables(
+        text,
+        start,
+        after,
+        rest,
+        lent,
+        &switches,
+        &targets,
+        &lookups,
+        &values,
+    );
+    let room = wrong_room(
+        text,
+        start,
+        after,
+        rest,
+        lent,
+        &places,
+        &hints,
+        &noted,
+        &labels,
+    );
+    answer | code | switched | room
 }
 
-// The name of what differs.
-fn write_buffer(what: u32) {
-    match what {
-        3 => replay::write(b"functions"),
-        4 => replay::write(b"ops"),
-        5 => replay::write(b"spans"),
-        6 => replay::write(b"globals"),
-        7 => replay::write(b"builtins"),
-        8 => replay::write(b"switches"),
-        9 => replay::write(b"targets"),
-        _ => replay::write(b"lookups"),
+// The used lengths after call k.
+fn wanted_of(f: Function, k: usize) -> Used {
+    if k <= EXACT {
+        return f.used;
     }
+    f.before
 }
 
-fn write_room(what: u32) {
-    match what {
-        11 => replay::write(b"values"),
-        12 => replay::write(b"places"),
-        13 => replay::write(b"hints"),
-        14 => replay::write(b"noted"),
-        _ => replay::write(b"labels"),
-    }
+// The marks are left past the program with the function, and zeros after a refusal.
+fn rest_after(number: usize) -> u32 {
+    if number == 0 { MARK } else { 0 }
 }
 
-fn write_thing(what: u32) {
-    match what {
-        1 => replay::write(b"answer"),
-        2 => replay::write(b"used lengths"),
-        3..=10 => write_buffer(what),
-        _ => write_room(what),
-    }
-}
-
-fn write_call(call: u32) {
-    match call {
-        0 => replay::write(b"room to spare"),
-        1 => replay::write(b"exactly enough room"),
-        _ => {
-            replay::write(b"one word less for ");
-            write_thing(pc(sum(call as usize, 1)));
-        }
-    }
-}
-
-// The first call that differs, and what of it.
-fn report_first(c: Which, what: u32) {
-    replay::write(b"program ");
-    replay::number(c.program);
-    replay::write(b", function ");
-    replay::number(c.function);
-    replay::write(b", ");
-    write_call(c.call);
-    replay::write(b": ");
-    write_thing(what);
-    replay::write(b" differ\n");
-}
-
-fn report_once(t: Tally, c: Which, what: u32) {
-    if (t.differ == 0) & (t.wrong == 0) {
-        report_first(c, what);
-    }
-}
-
-// How many there are with one more where something differs.
-fn counted(n: usize, what: u32) -> usize {
-    if what == 0 { n } else { sum(n, 1) }
-}
-
-// The function with room to spare.
-fn with_spare(
-    text: &[u8],
-    p: Program,
-    f: Function,
-    ws: &[u32],
-    table: &[u64],
-    next: &[u64],
-    t: Tally,
-    c: Which,
-) -> Tally {
-    let lent = words_to_spare(p);
-    let what = trial(text, p, f, ws, table, next, lent, f.number);
-    if what != 0 {
-        report_once(t, c, what);
-    }
-    Tally {
-        functions: sum(t.functions, 1),
-        ops: t.ops,
-        differ: counted(t.differ, what),
-        exact: t.exact,
-        short: t.short,
-        wrong: t.wrong,
-    }
-}
-
-// In exactly enough room; a function that is refused needs none.
-fn with_enough(
-    text: &[u8],
-    p: Program,
-    f: Function,
-    ws: &[u32],
-    table: &[u64],
-    next: &[u64],
-    t: Tally,
-    c: Which,
-) -> Tally {
-    let id = base::get32(ws, 0) as usize;
-    let lent = if f.number == 0 {
-        words_after(f, ws)
-    } else {
-        words_before(f, id)
-    };
-    let what = trial(text, p, f, ws, table, next, lent, f.number);
-    if what != 0 {
-        report_once(t, c, what);
-    }
-    Tally {
-        functions: t.functions,
-        ops: t.ops,
-        differ: t.differ,
-        exact: sum(t.exact, 1),
-        short: t.short,
-        wrong: counted(t.wrong, what),
-    }
-}
-
-// In exactly enough room but for buffer k, which is a word short if the function adds to it.
-fn with_less(
-    text: &[u8],
-    p: Program,
-    f: Function,
-    ws: &[u32],
-    table: &[u64],
-    next: &[u64],
-    t: Tally,
-    c: Which,
-    k: usize,
-) -> Tally
-    requires { ⌜ k < 13 ⌝ }
+// The function's words.
+fn words_at(text: &[u8], at: usize, n: usize) -> [u32; 8192]
+    ensures { λ r. ⌜ length r ≡ 8192 ⌝ }
 {
-    let id = base::get32(ws, 0) as usize;
-    let before = words_before(f, id);
-    let mut lent = words_after(f, ws);
-    if lent[k] <= before[k] {
-        return t;
-    }
-    lent[k] -= 1;
-    let what = trial(text, p, f, ws, table, next, lent, 9);
-    if what != 0 {
-        report_once(t, c, what);
-    }
-    Tally {
-        functions: t.functions,
-        ops: t.ops,
-        differ: t.differ,
-        exact: t.exact,
-        short: sum(t.short, 1),
-        wrong: counted(t.wrong, what),
+    let mut ws = [0u32; 8192];
+    replay::load32(text, at, &mut ws, n);
+    ws
+}
+
+// The differences of call k of a function, which leaves the program with it, or after a refusal the one before it.
+fn with_call(text: &[u8], table: [u64; 64], p: Program, f: Function, k: usize) -> usize {
+    let ws = words_at(text, f.at, f.words);
+    let n = replay::least(f.words, 8192);
+    let number = either(k <= EXACT, f.number, NO_ROOM);
+    let mapped = either(k <= EXACT, f.mapped, 0);
+    let entries = either(k == 0, p.table, f.table);
+    let before = f.before;
+    let wanted = wanted_of(f, k);
+    let needed = f.used;
+    let mut start = p.start;
+    start.places = f.map;
+    trial(
+        text,
+        &ws[..n],
+        table,
+        table_after(table, f, number),
+        before,
+        wanted,
+        number,
+        rest_after(number),
+        start,
+        words_for(0, before, 0, 0, EXACT),
+        words_for(0, wanted, mapped, 0, EXACT),
+        words_for(entries, needed, f.values, f.labels, k),
+    )
+}
+
+// Each number, with the words that follow it; a semicolon ends these.
+fn tell(numbers: &[usize], words: &[u8]) {
+    let mut i = 0;
+    while i < numbers.len() {
+        replay::number(numbers[i]);
+        opnames::write_name(STDOUT_FILENO, words, i);
+        i += 1;
     }
 }
 
-// Each buffer a word short in turn.
-fn with_each_less(
-    text: &[u8],
-    p: Program,
-    f: Function,
-    ws: &[u32],
-    table: &[u64],
-    next: &[u64],
-    t: Tally,
-    c: Which,
-) -> Tally {
+// The first call that differs, and its differences.
+fn report_first(t: Tally, program: usize, function: usize, call: usize, what: usize) {
+    if (what == 0) | (t.differ != 0) | (t.wrong != 0) {
+        return;
+    }
+    tell(
+        &[program, function, call, what],
+        b" is the program, ; the function, ; the call, ; what differs\n;",
+    );
+}
+
+// One more call of a function, and its differences.
+fn with_result(t: Tally, call: usize, what: usize) -> Tally {
+    let one = either(what == 0, 0, 1);
     let mut tally = t;
-    let mut k = 0;
-    while k < KINDS {
-        let which = Which {
-            program: c.program,
-            function: c.function,
-            call: k as u32 + 2,
-        };
-        tally = with_less(text, p, f, ws, table, next, tally, which, k);
-        k += 1;
+    match call {
+        0 => {
+            tally.functions = sum(t.functions, 1);
+            tally.differ = sum(t.differ, one);
+        }
+        EXACT => {
+            tally.exact = sum(t.exact, 1);
+            tally.wrong = sum(t.wrong, one);
+        }
+        _ => {
+            tally.short = sum(t.short, 1);
+            tally.wrong = sum(t.wrong, one);
+        }
     }
     tally
 }
 
 // Every call of a function.
-fn with_function(
-    text: &[u8],
-    p: Program,
-    f: Function,
-    ws: &[u32],
-    table: &[u64],
-    next: &[u64],
-    t: Tally,
-    c: Which,
-) -> Tally {
-    let spared = with_spare(text, p, f, ws, table, next, t, c);
-    if !p.tried {
-        return spared;
-    }
-    let which = Which {
-        program: c.program,
-        function: c.function,
-        call: 1,
-    };
-    let enough = with_enough(text, p, f, ws, table, next, spared, which);
-    if f.number != 0 {
-        return enough;
-    }
-    with_each_less(text, p, f, ws, table, next, enough, c)
-}
-
-// The function's entry in the table after it.
-fn enter(f: Function, id: usize, table: &mut [u64]) {
-    if f.number == 0 {
-        let u = f.before;
-        base::set64(table, id, program::bytecode_at(pc(u.ops)));
-    }
-}
-
-// The function in the first words, unless it is marked unused; its entry comes into the table.
 fn replay_function(
     text: &[u8],
+    table: [u64; 64],
     p: Program,
     f: Function,
-    ws: &[u32],
-    table: &mut [u64],
     t: Tally,
-    c: Which,
+    program: usize,
+    function: usize,
 ) -> Tally {
-    if base::get32(ws, 2) != 0 {
-        return t;
-    }
-    let mut next = [0u64; 64];
-    base::copy64(&mut next, 0, table);
-    enter(f, base::get32(ws, 0) as usize, &mut next);
-    let after = with_function(text, p, f, ws, table, &next, t, c);
-    base::copy64(table, 0, &next);
-    after
-}
-
-// The function's words, in a buffer.
-fn replay_words(
-    text: &[u8],
-    p: Program,
-    f: Function,
-    table: &mut [u64],
-    t: Tally,
-    c: Which,
-) -> Tally {
-    let mut ws = [0u32; 8192];
-    load32(text, f.at, &mut ws, f.words);
-    let n = least(f.words, 8192);
-    replay_function(text, p, f, &ws[..n], table, t, c)
-}
-
-// All functions of the program in the text.
-fn replay_functions(text: &[u8], p: Program, table: &mut [u64], t: Tally, program: usize) -> Tally {
+    let calls = calls_of(p, f);
     let mut tally = t;
-    let mut before = at_first(p);
-    let mut at = p.first;
-    let mut done = 0;
-    while done < p.functions {
-        let f = function_at(text, at, before);
-        let which = Which {
-            program: program,
-            function: done,
-            call: 0,
-        };
-        tally = replay_words(text, p, f, table, tally, which);
-        before = f.used;
-        at = f.next;
-        done += 1;
+    let mut k = 0;
+    while k < calls {
+        if adds_to(f, k) {
+            let what = with_call(text, table, p, f, k);
+            report_first(tally, program, function, k, what);
+            tally = with_result(tally, k, what);
+        }
+        k += 1;
     }
-    tally.ops = sum(tally.ops, before.ops);
     tally
 }
 
-// The program in the text; the function table has to end as the Rust's.
+// All functions of the program in the text; the function table has to end as the Rust's.
 fn replay_program(text: &[u8], t: Tally, program: usize) -> Tally {
     let p = program_of(text);
-    let mut table = [0u64; 64];
-    load64(text, p.before, &mut table, p.table);
-    let mut tally = replay_functions(text, p, &mut table, t, program);
-    if right64(text, p.after, p.table, 0, &table, p.table) {
-        return tally;
-    }
-    let which = Which {
-        program: program,
-        function: p.functions,
-        call: 0,
+    let s = p.start;
+    let interned = Used {
+        ops: 0,
+        globals: p.strings,
+        builtins: 0,
+        switches: 0,
+        targets: 0,
+        lookups: 0,
+        values: 0,
     };
-    report_once(tally, which, 3);
-    tally.differ = sum(tally.differ, 1);
+    let mut table = [0u64; 64];
+    replay::load64(text, s.functions, &mut table, p.table);
+    let mut f = function_at(text, p.first, interned);
+    let mut tally = t;
+    let mut done = 0;
+    while done < p.functions {
+        tally = replay_function(text, table, p, f, tally, program, done);
+        table = table_after(table, f, f.number);
+        let used = f.used;
+        f = function_at(text, f.next, used);
+        done += 1;
+    }
+    let u = f.before;
+    let what = either(
+        replay::right64(text, p.end, p.table, 0, &table, p.table),
+        0,
+        TABLE,
+    );
+    report_first(tally, program, done, 0, what);
+    tally.ops = sum(tally.ops, u.ops);
+    tally.differ = sum(tally.differ, either(what == 0, 0, 1));
     tally
 }
 
 fn report(programs: usize, t: Tally) {
-    replay::number(programs);
-    replay::write(b" programs, ");
-    replay::number(t.functions);
-    replay::write(b" functions, ");
-    replay::number(t.ops);
-    replay::write(b" ops, ");
-    replay::number(t.differ);
-    replay::write(b" differ\n");
-}
-
-fn report_room(t: Tally) {
-    replay::number(t.exact);
-    replay::write(b" calls in exactly enough room, ");
-    replay::number(t.short);
-    replay::write(b" in one word less, ");
-    replay::number(t.wrong);
-    replay::write(b" differ\n");
+    tell(
+        &[
+            programs,
+            t.functions,
+            t.ops,
+            t.differ,
+            t.exact,
+            t.short,
+            t.wrong,
+        ],
+        b" programs, ; functions, ; ops, ; differ\n; calls in exactly enough room, ; in one word less, ; differ\n;",
+    );
 }
 
 // The next program of the file into the text: is it there, with its first list behind the 16 words of its head?
 fn next_program(text: &mut [u8]) -> bool {
-    let n = next_word() as usize;
-    if !next_bytes(text, 4 * n) {
+    let n = 4 * (replay::next_word() as usize);
+    if text.len() < n {
         return false;
     }
-    word_at(text, 0, 5) == 16
+    let read = replay::next_bytes(&mut text[..n]);
+    read & (replay::word_in(text, 0, 5) == 16)
 }
 
 // All programs.
 fn replay_all(text: &mut [u8]) {
-    let programs = next_word() as usize;
+    let programs = replay::next_word() as usize;
     let mut t = Tally {
         functions: 0,
         ops: 0,
@@ -1042,7 +735,6 @@ fn replay_all(text: &mut [u8]) {
         done += 1;
     }
     report(done, t);
-    report_room(t);
 }
 
 // As long as the largest program.

@@ -145,7 +145,7 @@ pub fn op_lines(plain: bool, ops: &Ops, spans: &Spans, from: usize, to: usize) {
 }
 
 // Word k of what is noted of function f.
-pub fn fact(facts: &Facts, f: usize, k: usize) -> usize {
+fn fact(facts: &Facts, f: usize, k: usize) -> usize {
     if 256 <= f {
         return 0;
     }
@@ -186,6 +186,11 @@ pub fn functions(facts: &Facts, ops: &Ops, spans: &Spans, count: usize) {
     }
 }
 
+// Word k of the record that starts at `at`.
+fn word_at(list: &[u64], at: usize, k: usize) -> u64 {
+    base::get64(list, wrapping_add_usize(at, k))
+}
+
 // A constant with its number.
 fn pair_line(plain: bool, name: &[u8], i: usize, kind: u64, payload: u64) {
     if plain {
@@ -207,7 +212,7 @@ pub fn pair_lines(plain: bool, name: &[u8], list: &[u64], n: usize) {
     let mut at = 0;
     while i < n {
         let kind = base::get64(list, at);
-        let payload = base::get64(list, wrapping_add_usize(at, 1));
+        let payload = word_at(list, at, 1);
         pair_line(plain, name, i, kind, payload);
         at = wrapping_add_usize(at, 2);
         i += 1;
@@ -310,8 +315,8 @@ pub fn switch_lines(plain: bool, switches: &Switches, n: usize, targets: &Target
     let mut at = 0;
     while i < n {
         let first = base::get64(switches, at);
-        let start = base::get64(switches, wrapping_add_usize(at, 1));
-        let count = base::get64(switches, wrapping_add_usize(at, 2));
+        let start = word_at(switches, at, 1);
+        let count = word_at(switches, at, 2);
         switch_line(plain, i, first, start, count, targets);
         at = wrapping_add_usize(at, 3);
         i += 1;
@@ -325,10 +330,7 @@ pub fn switch_lines(plain: bool, switches: &Switches, n: usize, targets: &Target
 fn entry_value(values: &Values, at: u64) {
     let i = wrapping_add_u64(at, at) as usize;
     write(b": ");
-    constant(
-        base::get64(values, i),
-        base::get64(values, wrapping_add_usize(i, 1)),
-    );
+    constant(base::get64(values, i), word_at(values, i, 1));
     end();
 }
 
@@ -347,25 +349,22 @@ fn key_lines(values: &Values, first: u64, start: u64, count: u64) {
 fn lookup_line(i: usize, lookups: &Lookups, at: usize) {
     head(b"lookup", i);
     wide_field(base::get64(lookups, at));
-    field(base::get64(lookups, wrapping_add_usize(at, 1)));
-    field(base::get64(lookups, wrapping_add_usize(at, 2)));
-    field(base::get64(lookups, wrapping_add_usize(at, 3)));
-    wide_field(base::get64(lookups, wrapping_add_usize(at, 4)));
+    field(word_at(lookups, at, 1));
+    field(word_at(lookups, at, 2));
+    field(word_at(lookups, at, 3));
+    wide_field(word_at(lookups, at, 4));
     end();
 }
 
 fn lookup_text(i: usize, lookups: &Lookups, at: usize, values: &Values) {
     let first = base::get64(lookups, at);
-    let start = base::get64(lookups, wrapping_add_usize(at, 1));
-    let count = base::get64(lookups, wrapping_add_usize(at, 2));
+    let start = word_at(lookups, at, 1);
+    let count = word_at(lookups, at, 2);
     padded(i);
     write(b"  slots from");
     field(start);
     write(b", default ");
-    constant(
-        base::get64(lookups, wrapping_add_usize(at, 3)),
-        base::get64(lookups, wrapping_add_usize(at, 4)),
-    );
+    constant(word_at(lookups, at, 3), word_at(lookups, at, 4));
     end();
     key_lines(values, first, start, count);
 }

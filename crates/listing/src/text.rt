@@ -60,20 +60,18 @@ pub fn signed64(n: u64) {
     number(18446744073709551615 - n + 1);
 }
 
+fn space_if(missing: bool) {
+    if missing {
+        write(b" ");
+    }
+}
+
 // Spaces in front of a number below 100,000, so that it ends in the same column as others.
 pub fn padded(n: usize) {
-    if n < 10000 {
-        write(b" ");
-    }
-    if n < 1000 {
-        write(b" ");
-    }
-    if n < 100 {
-        write(b" ");
-    }
-    if n < 10 {
-        write(b" ");
-    }
+    space_if(n < 10000);
+    space_if(n < 1000);
+    space_if(n < 100);
+    space_if(n < 10);
     number(n as u64);
 }
 

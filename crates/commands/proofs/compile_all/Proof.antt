@@ -1,87 +1,67 @@
+-- What is left grows less at each turn; how long the words and the ends are fits. Assumes nothing.
 use Prim.Native.Nat.{_<_, _*_, _-_}
 use native.Mathlib.Omega.{arith}
 use borrow.Author.Needs.{needs}
 use lib.ListN.{length}
 use Rattle.commands.proofs.compile_all.Statement.{statement}
 use Rattle.commands.proofs.compile_all.Tie as tie
-use Rattle.commands.proofs.compile_all.Reads as reads
-use Rattle.commands.proofs.compile_all.Lts as lts
-use Rattle.commands.proofs.after.Reads as after-reads
-use Rattle.commands.proofs.compile_words.Reads as compile-words-reads
-use Rattle.commands.proofs.part_of.Reads as part-of-reads
-use Rattle.commands.proofs.is_unused.Reads as is-unused-reads
 
 abbrev Inv-loop : tie.InvT-loop
-Inv-loop ws ends table₀ ops₀ spans₀ globals₀ builtins₀ switches₀ targets₀ lookups₀ values₀ facts₀ kept₀ places₀ state₀ f₀ table ops spans globals builtins switches targets lookups values facts kept places state f = (length ws * 4 < 18446744073709551616) × (length ends < 18446744073709551616)
+Inv-loop ws ends table₀ ops₀ spans₀ globals₀ builtins₀ switches₀ targets₀ lookups₀ values₀ facts₀ kept₀ places₀ state₀ f₀ table ops spans globals builtins switches targets lookups values facts kept places state f =
+    (length ws * 4 < 18446744073709551616) × (length ends < 18446744073709551616)
 
 abbrev μ-loop : tie.MeasureT-loop
-μ-loop ws ends table₀ ops₀ spans₀ globals₀ builtins₀ switches₀ targets₀ lookups₀ values₀ facts₀ kept₀ places₀ state₀ f₀ table ops spans globals builtins switches targets lookups values facts kept places state f = length ends - f
+μ-loop ws ends table₀ ops₀ spans₀ globals₀ builtins₀ switches₀ targets₀ lookups₀ values₀ facts₀ kept₀ places₀ state₀ f₀ table ops spans globals builtins switches targets lookups values facts kept places state f =
+    length ends - f
 
--- src/main.rt:188:5
 loop-holds : tie.Need-loop-holds Inv-loop μ-loop
 loop-holds c = search needs
 
--- src/main.rt:190:13
 returns : tie.Need-returns Inv-loop μ-loop
 returns c = tt
 
--- src/main.rt:192:13
 part-of-requires : tie.Need-part-of-requires Inv-loop μ-loop
 part-of-requires c κs = tt
 
--- src/main.rt:195:21
 mul-words : tie.Need-mul-words Inv-loop μ-loop
 mul-words c = omega (arith, c .part-of .ensures, c .before .before .before .before .loop .inv)
 
--- src/main.rt:195:21
 sub-words : tie.Need-sub-words Inv-loop μ-loop
 sub-words c = omega (arith, c .part-of .ensures)
 
--- src/main.rt:195:21
 part-words-start : tie.Need-part-words-start Inv-loop μ-loop
 part-words-start c = omega (arith, c .part-of .ensures)
 
--- src/main.rt:195:21
 part-words-end : tie.Need-part-words-end Inv-loop μ-loop
 part-words-end c = omega (arith, c .part-of .ensures)
 
--- src/main.rt:196:12
 is-unused-requires : tie.Need-is-unused-requires Inv-loop μ-loop
 is-unused-requires c κs = tt
 
--- src/main.rt:197:13
 add-f : tie.Need-add-f Inv-loop μ-loop
 add-f c = omega (arith, c .before .before .before .before .before .before .before .before .loop .inv, c .before .before .before .before .before .before .before .loop-test .taken)
 
--- src/main.rt:188:5
 loop-less : tie.Need-loop-less Inv-loop μ-loop
 loop-less c = omega (arith, c .before .before .before .before .before .before .before .loop-test .taken)
 
--- src/main.rt:188:5
 loop-again : tie.Need-loop-again Inv-loop μ-loop
 loop-again c = c .before .before .before .before .before .before .before .before .loop .inv
 
--- src/main.rt:200:13
 compile-words-requires : tie.Need-compile-words-requires Inv-loop μ-loop
 compile-words-requires c κs = tt
 
--- src/main.rt:214:9
 after-requires : tie.Need-after-requires Inv-loop μ-loop
 after-requires c κs = tt
 
--- src/main.rt:215:9
 add-f-2 : tie.Need-add-f-2 Inv-loop μ-loop
 add-f-2 c = omega (arith, c .before .before .before .before .before .before .before .before .before .before .before .before .before .before .before .before .before .before .before .before .before .before .before .loop .inv, c .before .before .before .before .before .before .before .before .before .before .before .before .before .before .before .before .before .before .before .before .before .before .loop-test .taken)
 
--- src/main.rt:188:5
 loop-less-2 : tie.Need-loop-less-2 Inv-loop μ-loop
 loop-less-2 c = omega (arith, c .before .before .before .before .before .before .before .before .before .before .before .before .before .before .before .before .before .before .before .before .before .before .loop-test .taken)
 
--- src/main.rt:188:5
 loop-again-2 : tie.Need-loop-again-2 Inv-loop μ-loop
 loop-again-2 c = c .before .before .before .before .before .before .before .before .before .before .before .before .before .before .before .before .before .before .before .before .before .before .before .loop .inv
 
--- src/main.rt:169:1
 returns-2 : tie.Need-returns-2 Inv-loop μ-loop
 returns-2 c = tt
 

@@ -1,8 +1,8 @@
 -- Indexes and sums in range, by the bounds that the loop keeps.
 use Prim.Native.Nat.{_≤_, _-_}
 use mathlib.Core.Path.{_≡_}
-use lib.ListN.{length}
 use borrow.Author.Needs.{needs}
+use lib.ListN.{length}
 use Rattle.compile_vectors.proofs.replay_all.Statement.{statement}
 use Rattle.compile_vectors.proofs.replay_all.Tie as tie
 
@@ -51,9 +51,6 @@ loop-again c = search needs
 report-requires : tie.Need-report-requires Inv-loop μ-loop
 report-requires c κs = search needs
 
-report-room-requires : tie.Need-report-room-requires Inv-loop μ-loop
-report-room-requires c κs = search needs
-
 same-length-2 : tie.Need-same-length-2 Inv-loop μ-loop
 same-length-2 c = search needs
 
@@ -79,6 +76,5 @@ replay-all-spec =
     loop-less
     loop-again
     report-requires
-    report-room-requires
     same-length-2
     returns-2)

@@ -16,17 +16,14 @@ loop-holds c = search needs
 get64-requires : tie.Need-get64-requires Inv-loop μ-loop
 get64-requires c κs = search needs
 
-wrapping-add-usize-requires : tie.Need-wrapping-add-usize-requires Inv-loop μ-loop
-wrapping-add-usize-requires c κs = search needs
-
-get64-requires-2 : tie.Need-get64-requires-2 Inv-loop μ-loop
-get64-requires-2 c κs = search needs
+word-at-requires : tie.Need-word-at-requires Inv-loop μ-loop
+word-at-requires c κs = search needs
 
 pair-line-requires : tie.Need-pair-line-requires Inv-loop μ-loop
 pair-line-requires c κs = search needs
 
-wrapping-add-usize-requires-2 : tie.Need-wrapping-add-usize-requires-2 Inv-loop μ-loop
-wrapping-add-usize-requires-2 c κs = search needs
+wrapping-add-usize-requires : tie.Need-wrapping-add-usize-requires Inv-loop μ-loop
+wrapping-add-usize-requires c κs = search needs
 
 add-i : tie.Need-add-i Inv-loop μ-loop
 add-i c = search needs
@@ -48,10 +45,9 @@ pair-lines-spec =
     μ-loop
     loop-holds
     get64-requires
-    wrapping-add-usize-requires
-    get64-requires-2
+    word-at-requires
     pair-line-requires
-    wrapping-add-usize-requires-2
+    wrapping-add-usize-requires
     add-i
     loop-less
     loop-again

@@ -22,23 +22,17 @@ loop-holds c = search needs
 get64-requires : tie.Need-get64-requires Inv-loop μ-loop
 get64-requires c κs = search needs
 
-wrapping-add-usize-requires : tie.Need-wrapping-add-usize-requires Inv-loop μ-loop
-wrapping-add-usize-requires c κs = search needs
+word-at-requires : tie.Need-word-at-requires Inv-loop μ-loop
+word-at-requires c κs = search needs
 
-get64-requires-2 : tie.Need-get64-requires-2 Inv-loop μ-loop
-get64-requires-2 c κs = search needs
-
-wrapping-add-usize-requires-2 : tie.Need-wrapping-add-usize-requires-2 Inv-loop μ-loop
-wrapping-add-usize-requires-2 c κs = search needs
-
-get64-requires-3 : tie.Need-get64-requires-3 Inv-loop μ-loop
-get64-requires-3 c κs = search needs
+word-at-requires-2 : tie.Need-word-at-requires-2 Inv-loop μ-loop
+word-at-requires-2 c κs = search needs
 
 switch-line-requires : tie.Need-switch-line-requires Inv-loop μ-loop
 switch-line-requires c κs = search needs
 
-wrapping-add-usize-requires-3 : tie.Need-wrapping-add-usize-requires-3 Inv-loop μ-loop
-wrapping-add-usize-requires-3 c κs = search needs
+wrapping-add-usize-requires : tie.Need-wrapping-add-usize-requires Inv-loop μ-loop
+wrapping-add-usize-requires c κs = search needs
 
 add-i : tie.Need-add-i Inv-loop μ-loop
 add-i c = search needs
@@ -71,12 +65,10 @@ switch-lines-spec =
     title-requires
     loop-holds
     get64-requires
-    wrapping-add-usize-requires
-    get64-requires-2
-    wrapping-add-usize-requires-2
-    get64-requires-3
+    word-at-requires
+    word-at-requires-2
     switch-line-requires
-    wrapping-add-usize-requires-3
+    wrapping-add-usize-requires
     add-i
     loop-less
     loop-again
