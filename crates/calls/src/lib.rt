@@ -91,7 +91,7 @@ fn put_shuffle(
     let mut src = [0u32; MOST_ARGUMENTS];
     let mut dst = [0u32; MOST_ARGUMENTS];
     let n = gather_arguments(ws, map, &mut src, &mut dst, pushes, at, count);
-    moves::put_moves(ops, spans, p, &mut src, &mut dst, n)
+    moves_code::put_moves(ops, spans, p, &mut src, &mut dst, n)
 }
 
 // The pushes of the first k registers, then the arguments.

@@ -159,7 +159,7 @@ pub fn put_edge(
     let mut src = [0u32; MOST_MOVES];
     let mut dst = [0u32; MOST_MOVES];
     let n = gather_edge(ws, map, e, &mut src, &mut dst);
-    let q = moves::put_moves(ops, spans, p, &mut src, &mut dst, n);
+    let q = moves_code::put_moves(ops, spans, p, &mut src, &mut dst, n);
     let target = input::edge_field(ws, e, 0);
     if target == next {
         return q;

@@ -1,6 +1,8 @@
 pub mod Columns
-pub mod Loops
 pub mod Turns
 pub mod Checked
 pub mod Words
-pub mod Emitting
+pub mod Stuck
+pub mod Steps
+pub mod Runs
+pub mod Theorem

@@ -195,7 +195,7 @@ fn words_of(words: &mut [u64], marks: &mut [u32], span: u32, c: Columns) -> usiz
         last: 0,
         span: span,
     };
-    let q = moves::put_moves(words, marks, p, &mut src, &mut dst, count);
+    let q = moves_code::put_moves(words, marks, p, &mut src, &mut dst, count);
     q.at
 }
 

@@ -19,7 +19,7 @@ use Rattle.moves.specs.Moves.{moveWords}
 use Rattle.moves.specs.AtOnce.{placeOk, allOk, movesOk, MovedAtOnce}
 use Rattle.moves.proofs.Columns.{Each}
 use Rattle.moves.proofs.Checked.{Distinct, Checked, among-not, moves-checked, place-apart}
-use Rattle.moves_proof.proofs.Theorem.{moves-theorem}
+use Rattle.moves.proofs.Theorem.{moves-theorem}
 use Rattle.edges.specs.Pairs.{differingSources, differingDestinations}
 
 -- ---- back from what is said of a column to its test

@@ -4,9 +4,9 @@ use Prim.Native.Nat.{_-_}
 use native.Mathlib.Omega.{arith}
 use lib.ListN.{take, drop}
 use Rattle.base.specs.Lists.{among}
-use Rattle.moves.proofs.Loops.{source-here, source-later, source-none}
-use Rattle.moves.proofs.is_source.Statement.{statement}
-use Rattle.moves.proofs.is_source.Tie as tie
+use Rattle.moves_code.proofs.Loops.{source-here, source-later, source-none}
+use Rattle.moves_code.proofs.is_source.Statement.{statement}
+use Rattle.moves_code.proofs.is_source.Tie as tie
 
 abbrev Inv-loop : tie.InvT-loop
 Inv-loop src n d source₀ source = among d (take n src) ≡ among d (drop source (take n src))

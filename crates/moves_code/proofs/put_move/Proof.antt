@@ -1,8 +1,8 @@
 -- One law for each kind of move, over what `put` ensures of each op.
 use borrow.Author.Needs.{needs}
-use Rattle.moves.proofs.Emitting.{reg-to-reg, reg-to-slot, slot-to-reg, slot-to-slot}
-use Rattle.moves.proofs.put_move.Statement.{statement}
-use Rattle.moves.proofs.put_move.Tie as tie
+use Rattle.moves_code.proofs.Emitting.{reg-to-reg, reg-to-slot, slot-to-reg, slot-to-slot}
+use Rattle.moves_code.proofs.put_move.Statement.{statement}
+use Rattle.moves_code.proofs.put_move.Tie as tie
 
 cast-mov : tie.Need-cast-mov
 cast-mov c = search needs

@@ -4,10 +4,10 @@ use Prim.Native.Nat.{_+_, _-_}
 use native.Mathlib.Omega.{arith}
 use borrow.Author.Tests.{not-true, not-false}
 use lib.ListN.{take, drop}
 use Rattle.moves.specs.Moves.{firstReady}
-use Rattle.moves.proofs.Loops.{ready-here, ready-later, ready-none}
-use Rattle.moves.proofs.first_ready.Statement.{statement}
-use Rattle.moves.proofs.first_ready.Tie as tie
+use Rattle.moves_code.proofs.Loops.{ready-here, ready-later, ready-none}
+use Rattle.moves_code.proofs.first_ready.Statement.{statement}
+use Rattle.moves_code.proofs.first_ready.Tie as tie
 
 abbrev Inv-loop : tie.InvT-loop
 Inv-loop src dst n i₀ i = firstReady (take n src) (take n dst) ≡ i + firstReady (take n src) (drop i (take n dst))

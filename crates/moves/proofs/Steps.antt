@@ -11,10 +11,10 @@ use lib.Dec.{eqb}
 use Rattle.base.specs.Choice.{pick}
 use Rattle.base.specs.Lists.{among}
 use Rattle.base.proofs.Numbers.{same?}
 use Rattle.moves.specs.Moves.{firstReady, swapRemove, park}
 use Rattle.moves.proofs.Columns.{Each, was, swap-length, swap-at, was-lt, swap-each, park-length, park-at, park-each}
 use Rattle.moves.proofs.Checked.{Distinct, among-not}
-use Rattle.moves_proof.proofs.Stuck.{stuck-apart}
+use Rattle.moves.proofs.Stuck.{stuck-apart}
 
 -- t is s after the moves, all at once, except at sc and tmp
 pub record Together (sc tmp : ℕ) (ss ds : List ℕ) (s t : ℕ → ℕ) : Type 0 where

@@ -8,10 +8,10 @@ use lib.ListN.{length, take, length-set}
 use Rattle.base.specs.Emission.{emitAll}
 use Rattle.base.proofs.Pens.{Left, left-as, left-turn, left-end}
 use Rattle.place.specs.Registers.{registers}
 use Rattle.moves.specs.Moves.{moveWords}
-use Rattle.moves.proofs.Emitting.{restOf, rest-start, rest-ready, rest-park, rest-none, rest-out}
-use Rattle.moves.proofs.put_moves.Statement.{statement}
-use Rattle.moves.proofs.put_moves.Tie as tie
+use Rattle.moves_code.proofs.Emitting.{restOf, rest-start, rest-ready, rest-park, rest-none, rest-out}
+use Rattle.moves_code.proofs.put_moves.Statement.{statement}
+use Rattle.moves_code.proofs.put_moves.Tie as tie
 
 abbrev Inv-loop : tie.InvT-loop
 Inv-loop ops₀ spans₀ src₀ dst₀ n scratch q₀ left₀ fuel₀ ops spans src dst q left fuel =

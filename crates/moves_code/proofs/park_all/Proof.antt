@@ -4,10 +4,10 @@ use mathlib.Core.Logic.{⊎-elim}
 use Prim.Native.Nat.{_≤_, _-_}
 use native.Mathlib.Omega.{arith}
 use lib.ListN.{length, take, length-set}
 use Rattle.moves.specs.Moves.{park}
-use Rattle.moves.proofs.Loops.{parkFrom, park-hit, park-miss, park-end}
-use Rattle.moves.proofs.park_all.Statement.{statement}
-use Rattle.moves.proofs.park_all.Tie as tie
+use Rattle.moves_code.proofs.Loops.{parkFrom, park-hit, park-miss, park-end}
+use Rattle.moves_code.proofs.park_all.Statement.{statement}
+use Rattle.moves_code.proofs.park_all.Tie as tie
 
 abbrev Inv-loop : tie.InvT-loop
 Inv-loop src₀ n x sc reader₀ src reader = (length src ≡ length src₀) × (parkFrom x sc reader (take n src) ≡ park x sc (take n src₀))

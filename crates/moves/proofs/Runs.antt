@@ -12,8 +12,8 @@ use Rattle.base.specs.Choice.{pick}
 use Rattle.place.specs.Places.{slotsFrom}
 use Rattle.machine.specs.Machine.{State, World, upd, gets, run, holds}
 use Rattle.machine.proofs.Machine.{upd-same, holds-reg, holds-slot}
 use Rattle.moves.specs.Moves.{moveOps}
-use Rattle.moves_proof.proofs.Steps.{Copied}
+use Rattle.moves.proofs.Steps.{Copied}
 
 -- after a register is set
 got-reg : (st : State) (r v : ℕ) → r < slotsFrom → holds (gets r v st) r ≡ v

@@ -16,15 +16,15 @@ use Rattle.place.specs.Places.{slotsFrom}
 use Rattle.op.specs.declared.Op.{Op}
 use Rattle.machine.specs.Machine.{State, World, run, holds}
 use Rattle.machine.proofs.Machine.{run-append, run-words, holds-reg, holds-slot}
 use Rattle.moves.specs.Moves.{moveOps, firstReady, swapRemove, park, turns, moves, moveWords}
 use Rattle.moves.specs.AtOnce.{MovedAtOnce, MovesTheorem}
 use Rattle.moves.proofs.Columns.{Each, swap-length, swap-each, park-length, park-at}
 use Rattle.moves.proofs.Turns.{turns-ready, turns-park, none-left}
 use Rattle.moves.proofs.Checked.{among-at, among-not, Checked, moves-checked, place-within, place-apart}
 use Rattle.moves.proofs.Words.{moves-parts}
-use Rattle.moves_proof.proofs.Stuck.{ready-is}
-use Rattle.moves_proof.proofs.Steps.{Together, Good, ready-good, ready-step, stuck-sc, park-good, park-step}
-use Rattle.moves_proof.proofs.Runs.{move-copies}
+use Rattle.moves.proofs.Stuck.{ready-is}
+use Rattle.moves.proofs.Steps.{Together, Good, ready-good, ready-step, stuck-sc, park-good, park-step}
+use Rattle.moves.proofs.Runs.{move-copies}
 
 -- how many turns are left at most: two for each move, and one less while sc is a source
 abbrev turnsLeft : ℕ → List ℕ → List ℕ → ℕ

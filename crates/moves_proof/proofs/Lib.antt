@@ -1,4 +1,0 @@
-pub mod Stuck
-pub mod Steps
-pub mod Runs
-pub mod Theorem
