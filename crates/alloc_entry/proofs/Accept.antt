@@ -26,14 +26,14 @@ use Rattle.alloc.proofs.Counts.{same-self, stacked-append, free-low}
 use Rattle.alloc.proofs.Keeps.{bit-true, known-more}
 use Rattle.alloc.proofs.Outcome.{known-fits}
 use Rattle.alloc.proofs.Owned.{Fitted}
-use Rattle.alloc_entry.specs.Judged.{allBelow, activePlaces, freeRegs, placesOf, ours}
+use Rattle.alloc_state.specs.Judged.{allBelow, activePlaces, freeRegs, placesOf, ours}
 use Rattle.alloc_entry.specs.Entries.{poolOf}
-use Rattle.alloc_entry.specs.Marks.{slotPlaces, entryPlaces}
-use Rattle.alloc_entry.proofs.Distinct.{among-count, count-among, not-among-count, distinct-count, count-distinct}
-use Rattle.alloc_entry.proofs.Ours.{below-each, ours-gpr, ours-slot, ours-fpr, ours-each, each-ours}
-use Rattle.alloc_entry.proofs.Marking.{AllFit, fit-first, eqb-plus}
-use Rattle.alloc_entry.proofs.Judge.{free-gpr, free-fpr, free-slot, free-distinct, free-cases}
-use Rattle.alloc_entry.proofs.States.{Accepted}
+use Rattle.alloc_state.specs.Marks.{slotPlaces, entryPlaces}
+use Rattle.alloc_state.proofs.Distinct.{among-count, count-among, not-among-count, distinct-count, count-distinct}
+use Rattle.alloc_state.proofs.Ours.{below-each, ours-gpr, ours-slot, ours-fpr, ours-each, each-ours}
+use Rattle.alloc_state.proofs.Marking.{AllFit, fit-first, eqb-plus}
+use Rattle.alloc_state.proofs.Judge.{free-gpr, free-fpr, free-slot, free-distinct, free-cases}
+use Rattle.alloc_state.proofs.States.{Accepted}
 
 -- ---- places and their numbers, as counts
 -- the same place has the same number

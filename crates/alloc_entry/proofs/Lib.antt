@@ -1,9 +1,3 @@
-pub mod Turns
-pub mod Distinct
-pub mod Ours
-pub mod Marking
-pub mod Judge
-pub mod States
 pub mod Accept
 pub mod Calls
 pub mod Refusals

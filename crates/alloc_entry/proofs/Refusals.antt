@@ -13,10 +13,10 @@ use Rattle.alloc.specs.Good.{Good}
 use Rattle.alloc.proofs.Owned.{Fitted}
 use Rattle.alloc_entry.specs.declared.Answer.the-variants as answer
 use Rattle.alloc_entry.specs.declared.Answered.{Answered}
-use Rattle.alloc_entry.specs.Judged.{regOk, allBelow, stateOk, listsShort}
+use Rattle.alloc_state.specs.Judged.{regOk, allBelow, stateOk, listsShort}
 use Rattle.alloc_entry.specs.Entries.{answered, poolOf, wasUsed, freshEntry, placeEntry, placeEntryMap, pinEntry, pinEntryMap, expireEntry, slotsEntry, liveAfterEntry, usedEntry}
 use Rattle.alloc_entry.specs.Inner.{placeIn, placeInMap, pinIn, pinInMap}
-use Rattle.alloc_entry.proofs.States.{accepted}
+use Rattle.alloc_state.proofs.States.{accepted}
 use Rattle.alloc_entry.proofs.Accept.{fitted-fits, accepted-sound, Sound}
 
 -- a state that passed is good

@@ -24,12 +24,12 @@ use Rattle.alloc.proofs.Owned.{Fitted}
 use Rattle.alloc.proofs.Regs.{regs-expire, regs-place, regs-pin}
 use Rattle.alloc_entry.specs.declared.Answer.the-variants as answer
 use Rattle.alloc_entry.specs.declared.Answered.{Answered}
-use Rattle.alloc_entry.specs.Judged.{allBelow, activePlaces, freeRegs, placesOf, stateOk, listsShort}
+use Rattle.alloc_state.specs.Judged.{allBelow, activePlaces, freeRegs, placesOf, stateOk, listsShort}
 use Rattle.alloc_entry.specs.Entries.{answered, noSlot, poolOf, callOk, freshEntry, placeEntry, placeEntryMap, pinEntry, pinEntryMap, expireEntry}
 use Rattle.alloc_entry.specs.Sharing.{Call, place, pin, expire, stateAfter, Apart, SharingTheorem}
-use Rattle.alloc_entry.proofs.Distinct.{distinct-left, distinct-apart, distinct-once}
-use Rattle.alloc_entry.proofs.Ours.{pool-has}
-use Rattle.alloc_entry.proofs.States.{accepts}
+use Rattle.alloc_state.proofs.Distinct.{distinct-left, distinct-apart, distinct-once}
+use Rattle.alloc_state.proofs.Ours.{pool-has}
+use Rattle.alloc_state.proofs.States.{accepts}
 use Rattle.alloc_entry.proofs.Accept.{Sound, good-distinct, sound-accepted}
 use Rattle.alloc_entry.proofs.Refusals.{passed-sound}
 

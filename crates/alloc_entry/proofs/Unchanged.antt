@@ -17,9 +17,9 @@ use Rattle.alloc.specs.Allocation.{expireOf, placeOf, isFree, pinOf, mapAfterPi
 use Rattle.alloc_entry.specs.declared.Answer.{Answer}
 use Rattle.alloc_entry.specs.declared.Answer.the-variants as answer
 use Rattle.alloc_entry.specs.declared.Answered.{Answered}
-use Rattle.alloc_entry.specs.Judged.{stateOk, listsShort}
+use Rattle.alloc_state.specs.Judged.{stateOk, listsShort}
 use Rattle.alloc_entry.specs.Entries.{answerNumber, answered, noSlot, gotAnswer, poolOf, callOk, placeEntry, placeEntryMap, pinEntry, pinEntryMap, expireEntry}
-use Rattle.alloc_entry.proofs.Distinct.{true-not-false}
+use Rattle.alloc_state.proofs.Distinct.{true-not-false}
 
 -- two choices by one test
 pick-two : {A B : Type 0} (Q : A → B → Type 0) (t : Bool) (a b : A) (x y : B) → (t ≡ true → Q a x) → (t ≡ false → Q b y) → Q (pick t a b) (pick t x y)

@@ -23,7 +23,7 @@ use Rattle.alloc_entry.specs.declared.Answer.the-variants as answer
 use Rattle.alloc_entry.specs.declared.Answered.{Answered}
 use Rattle.alloc.specs.State.{freshOf, live}
 use Rattle.alloc.specs.Allocation.{expireOf, placeOf, mapAfterPlace, pinOf, mapAfterPin, isFree, liveAfter}
-use Rattle.alloc_entry.specs.Judged.{regOk, allBelow, stateOk, listsShort}
+use Rattle.alloc_state.specs.Judged.{regOk, allBelow, stateOk, listsShort}
 
 -- document 01's number of each answer
 abbrev pub answerNumber : Answer → ℕ

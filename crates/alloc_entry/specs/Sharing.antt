@@ -10,7 +10,7 @@ use Rattle.place.specs.Places.{slotsFrom}
 use Rattle.alloc.specs.declared.Alloc.{Alloc}
 use Rattle.alloc.specs.declared.Hint.{Hint}
 use Rattle.alloc.specs.State.{live, freeSlots}
-use Rattle.alloc_entry.specs.Judged.{activePlaces, freeRegs}
+use Rattle.alloc_state.specs.Judged.{activePlaces, freeRegs}
 use Rattle.alloc_entry.specs.Entries.{freshEntry, placeEntry, placeEntryMap, pinEntry, pinEntryMap, expireEntry}
 
 -- a call of an entry that changes the state; asking changes nothing
