@@ -1,32 +1,55 @@
--- A loop over the records of a table: what has passed so far, and what a whole table that passed says of each record. Assumes nothing.
+-- A loop that tests one record after the other and stops at the first that fails, and what a whole table that passed says of each record. Assumes
+-- nothing.
 use mathlib.Core.Path.{_≡_, sym, _∙_}
 use mathlib.Core.Bool.{Bool, true, false}
 use Prim.Native.Nat.{ℕ, zero, suc, _+_, _-_, _<_, _≤_}
+use native.Mathlib.Nat.{not-suc-le-zero}
 use native.Mathlib.Omega.{arith}
+use Rattle.base.specs.Choice.{pick}
 use Rattle.input.specs.Forms.{both, each}
 use Rattle.input.proofs.Chain.{both-parts}
 
--- the records from i on decide of all n
-pub record Passed (ok : ℕ → Bool) (n i : ℕ) : Type 0 where
-  pub so-far : each ok 0 n ≡ each ok i (n - i)
+-- The records from k up to `end` decide the answer r.
+pub record Left (ok : ℕ → Bool) (k end : ℕ) (r : Bool) : Type 0 where
+  pub is : each ok k (end - k) ≡ r
 
-pub each-turn : (ok : ℕ → Bool) (n i : ℕ) → i < n → each ok i (n - i) ≡ both (ok i) (each ok (i + 1) (n - (i + 1)))
+each-turn : (ok : ℕ → Bool) (k n : ℕ) → 0 < n → each ok k n ≡ pick (ok k) (each ok (k + 1) (n - 1)) false
 unfolding each
-each-turn ok n i h = let e : n - i ≡ suc (n - (i + 1)) = omega arith in rw e
+each-turn ok k zero h = absurd (not-suc-le-zero h)
+each-turn ok k (suc n) h =
+    let e : suc n - 1 ≡ n = omega arith in
+    rw e
 
-pub passed-start : (ok : ℕ → Bool) (n : ℕ) → Passed ok n 0
-passed-start ok n = let e : n - 0 ≡ n = omega arith in record { so-far = rw e }
+-- before the first turn: n records from k on, and all of them
+pub left-part : (ok : ℕ → Bool) (k n : ℕ) → Left ok k (k + n) (each ok k n)
+left-part ok k n =
+    let d : k + n - k ≡ n = omega arith in
+    record { is = rw d }
 
-pub passed-turn : {ok : ℕ → Bool} {n i : ℕ} → Passed ok n i → i < n → ok i ≡ true → Passed ok n (i + 1)
-passed-turn {ok} {n} {i} p h e = record { so-far = p .so-far ∙ each-turn ok n i h ∙ rw e }
+pub left-all : (ok : ℕ → Bool) {end n : ℕ} → end ≡ n → Left ok 0 end (each ok 0 n)
+left-all ok {end} {n} e =
+    let d : end - 0 ≡ n = omega arith in
+    record { is = rw d }
 
--- a record that fails decides
-pub passed-stop : {ok : ℕ → Bool} {n i : ℕ} → Passed ok n i → i < n → ok i ≡ false → false ≡ each ok 0 n
-passed-stop {ok} {n} {i} p h e = sym (p .so-far ∙ each-turn ok n i h ∙ rw e)
+-- a record that passes
+pub left-turn : {ok : ℕ → Bool} {k end : ℕ} {r : Bool} → Left ok k end r → k < end → ok k ≡ true → Left ok (k + 1) end r
+left-turn {ok} {k} {end} l h t =
+    let e : end - (k + 1) ≡ end - k - 1 = omega arith in
+    let p : 0 < end - k = omega arith in
+    record { is = rw e (sym (each-turn ok k (end - k) p ∙ rw t) ∙ l .is) }
 
-pub passed-end : {ok : ℕ → Bool} {n i : ℕ} → Passed ok n i → n ≤ i → true ≡ each ok 0 n
+-- a record that fails
+pub left-stop : {ok : ℕ → Bool} {k end : ℕ} {r : Bool} → Left ok k end r → k < end → ok k ≡ false → r ≡ false
+left-stop {ok} {k} {end} l h t =
+    let p : 0 < end - k = omega arith in
+    sym (l .is) ∙ each-turn ok k (end - k) p ∙ rw t
+
+-- none is left
+pub left-done : {ok : ℕ → Bool} {k end : ℕ} {r : Bool} → Left ok k end r → end ≤ k → r ≡ true
 unfolding each
-passed-end {ok} {n} {i} p h = let e : n - i ≡ 0 = omega arith in sym (p .so-far ∙ rw e)
+left-done {ok} {k} {end} l h =
+    let e : end - k ≡ 0 = omega arith in
+    sym (l .is) ∙ rw e
 
 -- where all n from k on pass, each does
 pub each-at : (ok : ℕ → Bool) (k n : ℕ) → each ok k n ≡ true → (j : ℕ) → j < n → ok (k + j) ≡ true

@@ -1,4 +1,4 @@
--- Loops that test one record after the other and stop at the first that fails, and the sum of a loop over blocks.
+-- Loops over numbers of the pool and over blocks: what is left decides, and the sum of a loop over blocks.
 use mathlib.Core.Path.{_≡_, refl, sym, _∙_, ap}
 use mathlib.Core.Bool.{Bool, true, false, not}
 use mathlib.Core.List.{List, [], _∷_}
@@ -9,50 +9,9 @@ use Rattle.base.specs.Choice.{pick}
 use Rattle.input.specs.Layout.{values, poolAt, listAt}
 use Rattle.input.specs.Records.{isLive, instrCount}
 use Rattle.input.specs.Forms.{each}
+use Rattle.input.proofs.Each.{Left}
 use Rattle.shape.specs.Counts.{rowCount}
 use Rattle.shape.specs.Shape.{valueIn, valuesIn, noneLive}
-
--- The records from k up to `end` decide the answer r.
-pub record Left (ok : ℕ → Bool) (k end : ℕ) (r : Bool) : Type 0 where
-  pub is : each ok k (end - k) ≡ r
-
-each-turn : (ok : ℕ → Bool) (k n : ℕ) → 0 < n → each ok k n ≡ pick (ok k) (each ok (k + 1) (n - 1)) false
-unfolding each
-each-turn ok k zero h = absurd (not-suc-le-zero h)
-each-turn ok k (suc n) h =
-    let e : suc n - 1 ≡ n = omega arith in
-    rw e
-
--- before the first turn: n records from k on, and all of them
-pub left-part : (ok : ℕ → Bool) (k n : ℕ) → Left ok k (k + n) (each ok k n)
-left-part ok k n =
-    let d : k + n - k ≡ n = omega arith in
-    record { is = rw d }
-
-pub left-all : (ok : ℕ → Bool) {end n : ℕ} → end ≡ n → Left ok 0 end (each ok 0 n)
-left-all ok {end} {n} e =
-    let d : end - 0 ≡ n = omega arith in
-    record { is = rw d }
-
--- a record that passes
-pub left-turn : {ok : ℕ → Bool} {k end : ℕ} {r : Bool} → Left ok k end r → k < end → ok k ≡ true → Left ok (k + 1) end r
-left-turn {ok} {k} {end} l h t =
-    let e : end - (k + 1) ≡ end - k - 1 = omega arith in
-    let p : 0 < end - k = omega arith in
-    record { is = rw e (sym (each-turn ok k (end - k) p ∙ rw t) ∙ l .is) }
-
--- a record that fails
-pub left-stop : {ok : ℕ → Bool} {k end : ℕ} {r : Bool} → Left ok k end r → k < end → ok k ≡ false → r ≡ false
-left-stop {ok} {k} {end} l h t =
-    let p : 0 < end - k = omega arith in
-    sym (l .is) ∙ each-turn ok k (end - k) p ∙ rw t
-
--- none is left
-pub left-done : {ok : ℕ → Bool} {k end : ℕ} {r : Bool} → Left ok k end r → end ≤ k → r ≡ true
-unfolding each
-left-done {ok} {k} {end} l h =
-    let e : end - k ≡ 0 = omega arith in
-    sym (l .is) ∙ rw e
 
 -- A number of a list of the pool, by its place in the list.
 abbrev pub numberOk : List ℕ → ℕ → ℕ → Bool

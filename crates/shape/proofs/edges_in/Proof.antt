@@ -6,7 +6,7 @@ use borrow.Author.Needs.{needs}
 use borrow.Author.Tests.{leb-true, not-true, not-false}
 use Rattle.input.specs.Forms.{each}
 use Rattle.shape.specs.Shape.{edgeShape}
-use Rattle.shape.proofs.Loops.{Left, left-part, left-turn, left-stop, left-done}
+use Rattle.input.proofs.Each.{Left, left-part, left-turn, left-stop, left-done}
 use Rattle.shape.proofs.edges_in.Statement.{statement}
 use Rattle.shape.proofs.edges_in.Tie as tie
 

@@ -4,7 +4,8 @@ use borrow.Author.Needs.{needs}
 use borrow.Author.Tests.{lt-ltb, le-ltb, not-true, not-false}
 use Rattle.input.specs.Layout.{listAt}
 use Rattle.shape.specs.Shape.{valuesIn}
-use Rattle.shape.proofs.Loops.{Left, numberOk, left-list, left-turn, left-stop, left-done}
+use Rattle.input.proofs.Each.{Left, left-turn, left-stop, left-done}
+use Rattle.shape.proofs.Loops.{numberOk, left-list}
 use Rattle.shape.proofs.list_in.Statement.{statement}
 use Rattle.shape.proofs.list_in.Tie as tie
 

@@ -5,7 +5,8 @@ use borrow.Author.Needs.{needs}
 use borrow.Author.Tests.{eq-eqb, ne-eqb}
 use Rattle.input.specs.Layout.{blocks}
 use Rattle.shape.specs.Shape.{noneLive}
-use Rattle.shape.proofs.Loops.{Left, dead, left-blocks, left-turn, left-stop, left-done}
+use Rattle.input.proofs.Each.{Left, left-turn, left-stop, left-done}
+use Rattle.shape.proofs.Loops.{dead, left-blocks}
 use Rattle.shape.proofs.none_live.Statement.{statement}
 use Rattle.shape.proofs.none_live.Tie as tie
 
