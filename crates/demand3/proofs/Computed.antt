@@ -34,7 +34,8 @@ use Rattle.calls.specs.Calls.{maskedFrom, shuffle, callWith, calledAs, lowerCal
 use Rattle.tables.specs.Interning as interned
 use Rattle.tables.specs.Tables as tables
 use Rattle.instrs.specs.Instrs.{Env, seen, callOps, instrOps, lookupsIn, instrsOps}
-use Rattle.body.specs.Body.{returnOps, branchOps, termOps, nextLive, tallied, blockOps, blocksOps, rootRet, bodyOps}
+use Rattle.terms.specs.Terms.{returnOps, branchOps, termOps}
+use Rattle.body.specs.Body.{nextLive, tallied, blockOps, blocksOps, rootRet, bodyOps}
 use Rattle.frame.specs.Frames.{patch, resolvedWord, resolve, regsFrom, frameRegs, entered, framed}
 use Rattle.layout.specs.Layout.{blockPc}
 use Rattle.lists.specs.declared.Used.{Used}

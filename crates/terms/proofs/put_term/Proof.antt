@@ -1,9 +1,9 @@
 -- The chain of the definition at the kind that was found; a ready function's edges are few and near.
 use native.Mathlib.Omega.{arith}
 use borrow.Author.Needs.{needs}
-use Rattle.body.proofs.Terms.{term-none, term-return, term-jump, term-tail, term-switch, term-branch, jump-few, tail-few, switch-few, switch-near, switch-cases, branch-near, branch-first, branch-second}
-use Rattle.body.proofs.put_term.Statement.{statement}
-use Rattle.body.proofs.put_term.Tie as tie
+use Rattle.terms.proofs.Terms.{term-none, term-return, term-jump, term-tail, term-switch, term-branch, jump-few, tail-few, switch-few, switch-near, switch-cases, branch-near, branch-first, branch-second}
+use Rattle.terms.proofs.put_term.Statement.{statement}
+use Rattle.terms.proofs.put_term.Tie as tie
 
 block-field-requires : tie.Need-block-field-requires
 block-field-requires c κs = search needs

@@ -1,9 +1,9 @@
 -- One law for each branch: the operands are there, then the jump and the edges.
 use native.Mathlib.Omega.{arith}
 use borrow.Author.Needs.{needs}
-use Rattle.body.proofs.Terms.{branch-if, branch-imm, branch-cmp}
-use Rattle.body.proofs.put_branches.Statement.{statement}
-use Rattle.body.proofs.put_branches.Tie as tie
+use Rattle.terms.proofs.Terms.{branch-if, branch-imm, branch-cmp}
+use Rattle.terms.proofs.put_branches.Statement.{statement}
+use Rattle.terms.proofs.put_branches.Tie as tie
 
 block-field-requires : tie.Need-block-field-requires
 block-field-requires c κs = search needs

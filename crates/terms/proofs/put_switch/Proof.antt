@@ -1,9 +1,9 @@
 -- The subject is there, then the op and the edges.
 use native.Mathlib.Omega.{arith}
 use borrow.Author.Needs.{needs}
-use Rattle.body.proofs.Terms.{switch-as}
-use Rattle.body.proofs.put_switch.Statement.{statement}
-use Rattle.body.proofs.put_switch.Tie as tie
+use Rattle.terms.proofs.Terms.{switch-as}
+use Rattle.terms.proofs.put_switch.Statement.{statement}
+use Rattle.terms.proofs.put_switch.Tie as tie
 
 term-place-requires : tie.Need-term-place-requires
 term-place-requires c κs = search needs

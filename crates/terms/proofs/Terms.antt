@@ -21,7 +21,7 @@ use Rattle.edges.specs.Edges.{edge, branch, switchEdges}
 use Rattle.calls.specs.Calls.{lowerTail}
 use Rattle.ready.specs.Ready.{Ready, Live}
 use Rattle.instrs.specs.Instrs.{Env}
-use Rattle.body.specs.Body.{termPlace, branchBy, returnOps, branchOps, switchOps, termOps}
+use Rattle.terms.specs.Terms.{termPlace, branchBy, returnOps, branchOps, switchOps, termOps}
 
 -- ---- the branches: the first operand is there, a jump without its target is made
 module _ (n : ℕ) (ws places : List ℕ) (next b₀ : ℕ) {kind count e x r : ℕ} {jump : Op} {o b l o₁ b₁ l₁ o₂ b₂ l₂ : List ℕ} {p p₁ p₂ : Pen}

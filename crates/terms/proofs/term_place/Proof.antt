@@ -1,8 +1,8 @@
 -- The place of a value that the pool lists.
 use borrow.Author.Needs.{needs}
 use Rattle.instrs.proofs.Places.{place-listed}
-use Rattle.body.proofs.term_place.Statement.{statement}
-use Rattle.body.proofs.term_place.Tie as tie
+use Rattle.terms.proofs.term_place.Statement.{statement}
+use Rattle.terms.proofs.term_place.Tie as tie
 
 block-field-requires : tie.Need-block-field-requires
 block-field-requires c κs = search needs

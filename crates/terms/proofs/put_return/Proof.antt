@@ -1,8 +1,8 @@
 -- One law each for Return of nothing and of a value.
 use borrow.Author.Needs.{needs}
-use Rattle.body.proofs.Ends.{return-none, return-some}
-use Rattle.body.proofs.put_return.Statement.{statement}
-use Rattle.body.proofs.put_return.Tie as tie
+use Rattle.terms.proofs.Returns.{return-none, return-some}
+use Rattle.terms.proofs.put_return.Statement.{statement}
+use Rattle.terms.proofs.put_return.Tie as tie
 
 block-field-requires : tie.Need-block-field-requires
 block-field-requires c κs = search needs
