@@ -21,7 +21,8 @@ use Rattle.edges.specs.Edges.{hasMoves, padCount}
 use Rattle.ready.specs.Ready.{Ready, Live, InstrOf}
 use Rattle.body.specs.declared.Tally.{Tally}
 use Rattle.instrs.specs.Instrs.{Env, lookupsIn, instrsOps}
-use Rattle.body.specs.Body.{termOps, nextLive, tallied, isSwitch, blockOps, blocksOps, rootRet, bodyOps}
+use Rattle.terms.specs.Terms.{termOps}
+use Rattle.body.specs.Body.{nextLive, tallied, isSwitch, blockOps, blocksOps, rootRet, bodyOps}
 use Rattle.instrs.specs.Needs.{InstrReady}
 
 -- ---- a block: its label, its instructions, its terminator

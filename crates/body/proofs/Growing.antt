@@ -20,7 +20,8 @@ use Rattle.edges.specs.Edges.{hasMoves, jumpTo, edge, branch, pads, switchEdges
 use Rattle.calls.specs.Calls.{shuffle, callWith, lowerCall, lowerSys, lowerTail}
 use Rattle.body.specs.declared.Tally.{Tally}
 use Rattle.instrs.specs.Instrs.{Env, memoryOps, computeOps, loadConstOps, callOps, sysOps, instrOps, instrsOps}
-use Rattle.body.specs.Body.{returnOps, branchOps, switchOps, termOps, blockOps, blocksOps, endsFlow, rootRet, bodyOps}
+use Rattle.terms.specs.Terms.{returnOps, branchOps, switchOps, termOps}
+use Rattle.body.specs.Body.{blockOps, blocksOps, endsFlow, rootRet, bodyOps}
 use Rattle.body.proofs.Grows.{Grows, stays, by-all, by-emit, by-span, by-bind, starts-few, starts-keeps, Within}
 
 -- a rule that only adds, whatever came before it

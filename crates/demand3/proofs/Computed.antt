@@ -31,10 +31,11 @@ use Rattle.lower.specs.Operands.{operandReg, fetched, destReg, stored}
 use Rattle.edges.specs.Pairs.{movePairs}
 use Rattle.edges.specs.Edges.{edgeSources, edgeDestinations, hasMoves, jumpTo, edge, branch}
 use Rattle.calls.specs.Calls.{maskedFrom, shuffle, callWith, calledAs, lowerCall}
-use Rattle.tables.specs.Interning as interned
+use Rattle.interning.specs.Interning as interned
 use Rattle.tables.specs.Tables as tables
 use Rattle.instrs.specs.Instrs.{Env, seen, callOps, instrOps, lookupsIn, instrsOps}
-use Rattle.body.specs.Body.{returnOps, branchOps, termOps, nextLive, tallied, blockOps, blocksOps, rootRet, bodyOps}
+use Rattle.terms.specs.Terms.{returnOps, branchOps, termOps}
+use Rattle.body.specs.Body.{nextLive, tallied, blockOps, blocksOps, rootRet, bodyOps}
 use Rattle.frame.specs.Frames.{patch, resolvedWord, resolve, regsFrom, frameRegs, entered, framed}
 use Rattle.layout.specs.Layout.{blockPc}
 use Rattle.lists.specs.declared.Used.{Used}

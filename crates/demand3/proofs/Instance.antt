@@ -30,7 +30,7 @@ use Rattle.lower.specs.Operands.{destReg}
 use Rattle.edges.specs.Edges.{edgeSources, edgeDestinations}
 use Rattle.calls.specs.Calls.{maskedFrom, calledAs}
 use Rattle.instrs.specs.Instrs.{Env}
-use Rattle.body.specs.Body.{termPlace}
+use Rattle.terms.specs.Terms.{termPlace}
 use Rattle.calls_proof.specs.CallsRight.{beforeCall, afterCall}
 use Rattle.edges_proof.specs.EdgesRight.{edgeWords, EdgeMoved}
 use Rattle.calls_kept.specs.CallsKept.{callsFunction, opsBefore, opsAfter}

@@ -17,7 +17,7 @@ use Rattle.sharing.specs.Sharing.{RowIs}
 use Rattle.ready.specs.Ready.{Live, EdgeOf}
 use Rattle.lower.specs.Operands.{placeAt}
 use Rattle.calls.specs.Calls.{calledAs}
-use Rattle.tables.specs.Interning.{builtinOf}
+use Rattle.interning.specs.Interning.{builtinOf}
 use Rattle.frame.specs.Frames.{savedUpTo, frameRegs}
 use Rattle.frame.specs.FramesKept.{FrameKept}
 use Rattle.edges_proof.specs.EdgesRight.{edgeWords, EdgeMoved}

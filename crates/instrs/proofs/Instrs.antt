@@ -16,7 +16,7 @@ use Rattle.input.specs.Layout.{listAt}
 use Rattle.input.specs.Records.{instrKind, instrSpan, destination, operandsAt, operandCount, instrX, constantKind, payloadOf, loadConst, call, sys, lookup}
 use Rattle.lower.specs.Instructions.{isGlobal, constOps, lowerConst}
 use Rattle.calls.specs.Calls.{lowerCall, lowerSys}
-use Rattle.tables.specs.Interning.{globalOf, builtinOf}
+use Rattle.interning.specs.Interning.{globalOf, builtinOf}
 use Rattle.instrs.specs.Instrs.{Env, destPlace, loadConstOps, callOps, sysOps, computeOps, instrOps, instrsOps}
 use Rattle.instrs.proofs.Chosen.{Others, none-of}
 

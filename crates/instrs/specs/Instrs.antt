@@ -11,7 +11,7 @@ use Rattle.input.specs.Records.{instrKind, instrSpan, destination, operandsAt, 
 use Rattle.lower.specs.Operands.{placeAt}
 use Rattle.lower.specs.Instructions.{lowerBin, lowerBinImm, lowerCast, lowerAlloc, lowerStore, lowerLoad, lowerAddrOf, lowerLookup, lowerAssert, lowerConst}
 use Rattle.calls.specs.Calls.{lowerCall, lowerSys}
-use Rattle.tables.specs.Interning.{globalOf, builtinOf}
+use Rattle.interning.specs.Interning.{globalOf, builtinOf}
 
 -- What lowering reads: the function, the places of its values, the registers noted at its calls, and of the program the function table, where
 -- the function itself is entered, the globals and the builtins, where its own are interned.

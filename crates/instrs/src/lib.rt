@@ -139,7 +139,7 @@ fn put_load_const(
     let payload = payload_at(ws, c);
     let d = dest_place(ws, map, i);
     if lower::is_global(kind, payload) {
-        let g = tables::find_global(globals, count, kind, payload);
+        let g = interning::find_global(globals, count, kind, payload);
         return lower::put_const(ops, spans, p, d, kind, payload, g as u32);
     }
     lower::put_const(ops, spans, p, d, kind, payload, 0)
@@ -206,7 +206,7 @@ fn put_sys(
     let at = input::instr_field(ws, i, 3);
     let args = input::instr_field(ws, i, 4);
     let mask = noted_for(ws, noted, i);
-    let number = tables::find_builtin(builtins, count, input::instr_field(ws, i, 5)) as u32;
+    let number = interning::find_builtin(builtins, count, input::instr_field(ws, i, 5)) as u32;
     calls::put_sys(
         ops,
         spans,

@@ -19,7 +19,7 @@ use Rattle.input.specs.Records.{termKind, firstEdge, termY, edgeTarget}
 use Rattle.lower.specs.Operands.{operandReg, fetched}
 use Rattle.edges.specs.Edges.{hasMoves, nowhere, edge, jumpAt, branch}
 use Rattle.instrs.specs.Instrs.{Env}
-use Rattle.body.specs.Body.{termPlace, branchOps}
+use Rattle.terms.specs.Terms.{termPlace, branchOps}
 use Rattle.layout.specs.Layout.{EdgeAt, blockPc, BranchOp, onFalse, onOther, onUnequal, BranchAt}
 use Rattle.layout.proofs.Adding.{Adds, Any, Nil, stays, adds-then, adds-any, adds-nil, adds-emit, adds-bind, adds-few, emit-long, bind-ops, bound-at, between-at}
 use Rattle.layout.proofs.Instrs.{by-fetch}

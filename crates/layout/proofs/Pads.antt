@@ -19,7 +19,7 @@ use Rattle.input.specs.Records.{firstEdge, termY, edgeTarget}
 use Rattle.lower.specs.Operands.{operandReg, fetched}
 use Rattle.edges.specs.Edges.{hasMoves, nowhere, edge, padCount, pads, switchEdges}
 use Rattle.instrs.specs.Instrs.{Env}
-use Rattle.body.specs.Body.{termPlace, switchOps}
+use Rattle.terms.specs.Terms.{termPlace, switchOps}
 use Rattle.layout.specs.Layout.{EdgeAt, blockPc, Fetched}
 use Rattle.layout.proofs.Adding.{Adds, Any, Nil, stays, adds-none, adds-then, adds-any, adds-nil, adds-fewer, adds-emit, adds-bind, adds-few, emit-long, bind-ops, bound-at, between-at}
 use Rattle.layout.proofs.Instrs.{by-fetch}

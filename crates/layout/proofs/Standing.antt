@@ -21,7 +21,8 @@ use Rattle.edges.specs.Edges.{hasMoves, padCount}
 use Rattle.tables.specs.Tables.{caseKeys, slotFor, slotCount, switchHead, lookupHead, slotsIn}
 use Rattle.body.specs.declared.Tally.{Tally}
 use Rattle.instrs.specs.Instrs.{Env, instrOps, lookupsIn, instrsOps}
-use Rattle.body.specs.Body.{termPlace, switchOps, termOps, nextLive, blockOps}
+use Rattle.terms.specs.Terms.{termPlace, switchOps, termOps}
+use Rattle.body.specs.Body.{nextLive, blockOps}
 use Rattle.layout.specs.Layout.{blockPc, EdgeAt, InstrAt, BranchAt, LastOfKey, SwitchAt, TailAt, ReturnAt, BlockAt}
 use Rattle.layout.proofs.Adding.{Adds, Any, Nil, Goes, stays, adds-then, adds-any, adds-nil, adds-fewer, adds-few, bind-ops, span-ops, bound-at}
 use Rattle.layout.proofs.Instrs.{instr-going, instrs-going, instrs-split}

@@ -27,7 +27,8 @@ use Rattle.edges.specs.Edges.{edge, padCount}
 use Rattle.calls.specs.Calls.{shuffle, tailWords, lowerTail}
 use Rattle.calls_proof.specs.CallsRight.{shuffleWords}
 use Rattle.instrs.specs.Instrs.{Env}
-use Rattle.body.specs.Body.{termPlace, returnOps, branchOps, switchOps, termOps, isSwitch}
+use Rattle.terms.specs.Terms.{termPlace, returnOps, branchOps, switchOps, termOps}
+use Rattle.body.specs.Body.{isSwitch}
 use Rattle.layout.specs.Layout.{Stands, goesOn, Leaves, Ends, leaves, goes, ReturnAt, nothing, value}
 use Rattle.layout.proofs.Straight.{code-word, goes-op, moves-go}
 use Rattle.layout.proofs.Adding.{Adds, Any, Nil, stays, adds-none, adds-then, adds-any, adds-nil, adds-all, adds-emit, adds-span, adds-few, emit-long, span-ops, between-at, adds-long}

@@ -22,7 +22,8 @@ use Rattle.shape.specs.Shape.{shapeOk}
 use Rattle.ready.specs.Ready.{Ready, Live}
 use Rattle.calls.specs.Calls.{tailWords}
 use Rattle.instrs.specs.Instrs.{Env, instrOps}
-use Rattle.body.specs.Body.{termPlace, bodyOps}
+use Rattle.terms.specs.Terms.{termPlace}
+use Rattle.body.specs.Body.{bodyOps}
 use Rattle.frame.specs.Frames.{prologue, epilogue, framed}
 use Rattle.edges_proof.specs.EdgesRight.{edgeWords}
 use Rattle.calls_proof.specs.CallsRight.{shuffleWords}

@@ -13,7 +13,7 @@ use Rattle.input.specs.Records.{isLive, instrKind, lookup, constantKind, payloa
 use Rattle.rows.specs.Rows.{rowsOf, overRows}
 use Rattle.lower.specs.Instructions.{isGlobal}
 use Rattle.edges.specs.Edges.{hasMoves, padCount}
-use Rattle.tables.specs.Interning.{globalOf, builtinOf, intern, internAll, isString, rowConstants, stringsInterned, rowLoaded, globalsAfter, internBuiltin, internBuiltins, rowBuiltins, builtinsAfter}
+use Rattle.interning.specs.Interning.{globalOf, builtinOf, intern, internAll, isString, rowConstants, stringsInterned, rowLoaded, globalsAfter, internBuiltin, internBuiltins, rowBuiltins, builtinsAfter}
 use Rattle.tables.specs.Tables.{slotCount, slotFor, caseKeys, switchHead, storeCases, switchSlots, hasSwitch, switchHeads, switchTargets, entryKeys, defaultOf, lookupHead, filled, storeEntries, lookupSlots, lookupHeads, lookupValues, slotsIn, blocksHeads, blocksValues, switchHeadsAfter, switchTargetsAfter, lookupHeadsAfter, lookupValuesAfter}
 
 -- ---- constants, by pairs

@@ -11,7 +11,7 @@ use lib.Seq.{sets, length-sets, length-take-le, take-at}
 use Rattle.base.proofs.Numbers.{same?}
 use Rattle.base.proofs.Lists.{sets-front}
 use Rattle.input.specs.Layout.{values}
-use Rattle.tables.specs.Interning.{globalsAfter}
+use Rattle.interning.specs.Interning.{globalsAfter}
 use Rattle.lists.specs.declared.Used.{Used}
 use Rattle.lists.specs.declared.Tried.{Tried}
 use Rattle.lists.specs.Lists.{Lists, listsAfter, listsFit, globalWords, Started, Made, Listed}

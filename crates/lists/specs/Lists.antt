@@ -12,7 +12,7 @@ use Rattle.base.specs.Buffers.{zeroFrom}
 use Rattle.input.specs.Layout.{values}
 use Rattle.input.specs.Forms.{both}
 use Rattle.ready.specs.Ready.{Ready}
-use Rattle.tables.specs.Interning.{globalsAfter, builtinsAfter}
+use Rattle.interning.specs.Interning.{globalsAfter, builtinsAfter}
 use Rattle.tables.specs.Tables.{switchHeadsAfter, switchTargetsAfter, lookupHeadsAfter, lookupValuesAfter}
 use Rattle.lists.specs.declared.Used.{Used}
 use Rattle.lists.specs.declared.Tried.{Tried}

@@ -70,8 +70,8 @@ fn intern(ws: &[u32], globals: &mut [u64], builtins: &mut [u32], u: Used) -> Pai
     requires { ⌜ InternReady (now ws) u (now globals) (now builtins) ⌝ }
     ensures { λ r. ⌜ InternedParts (now (ws .entry)) u (now (globals .entry)) (now (builtins .entry)) (now (globals .exit)) (now (builtins .exit)) r ⌝ }
 {
-    let g = tables::intern_globals(ws, globals, end_at(2, 2 * u.globals, globals.len()));
-    let b = tables::intern_builtins(ws, builtins, end_at(1, u.builtins, builtins.len()));
+    let g = interning::intern_globals(ws, globals, end_at(2, 2 * u.globals, globals.len()));
+    let b = interning::intern_builtins(ws, builtins, end_at(1, u.builtins, builtins.len()));
     Pair {
         first: g.at,
         second: b.at,

@@ -41,7 +41,7 @@ fn give(ws: &[u32], map: &mut [u32], hints: &mut [u32], noted: &mut [u64]) -> Al
     ensures { λ s. ⌜ (s ≡ assigned registers (now (ws .entry)) .alloc) × (now (map .exit) ≡ sets (now (map .entry)) 0 (assigned registers (now (ws .entry)) .map)) × (take (values (now (ws .entry))) (now (noted .exit)) ≡ assigned registers (now (ws .entry)) .noted) × Good s ⌝ }
 {
     let n = input::head_field(ws, 3) as usize;
-    assign::give_places(ws, &mut map[..n], &mut hints[..n], &mut noted[..n])
+    walk::give_places(ws, &mut map[..n], &mut hints[..n], &mut noted[..n])
 }
 
 // Does every value get a place? The buffers are work room.
@@ -50,8 +50,8 @@ fn fit_in(ws: &[u32], map: &mut [u32], hints: &mut [u32], noted: &mut [u64]) -> 
     requires { ⌜ Lent (now ws) (now map) (now hints) (now noted) ⌝ }
     ensures { λ x. ⌜ x ≡ slotsOk registers (now (ws .entry)) ⌝ }
 {
-    assign::give_places(ws, map, hints, noted);
-    assign::all_placed(ws, map)
+    walk::give_places(ws, map, hints, noted);
+    walk::all_placed(ws, map)
 }
 
 // The same on arrays of its own: 8 is lower than 9, so it is judged whatever is lent.
@@ -80,7 +80,7 @@ fn fit_places(ws: &[u32], map: &mut [u32], hints: &mut [u32], noted: &mut [u64])
         return Placing::NoRoom;
     }
     let s = give(ws, map, hints, noted);
-    Placing::Given(s.made, assign::top_used(s))
+    Placing::Given(s.made, walk::top_used(s))
 }
 
 // No refusal?
@@ -170,6 +170,6 @@ pub fn place_values(
     Placed {
         number: 0,
         slots: s.made as u8,
-        top: assign::top_used(s),
+        top: walk::top_used(s),
     }
 }

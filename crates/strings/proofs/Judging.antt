@@ -23,7 +23,7 @@ use Rattle.fit.specs.Keys.{keyedOk}
 use Rattle.judge.specs.Judged.{unfit}
 use Rattle.judge.proofs.Shapes.{shape-given, rows-placed}
 use Rattle.ready.specs.Ready.{Live}
-use Rattle.tables.specs.Interning.{stringsInterned}
+use Rattle.interning.specs.Interning.{stringsInterned}
 use Rattle.strings.specs.Strings.{isUsed, unfitString, Unfit, firstUnfit}
 
 -- 4 to 7 count as none

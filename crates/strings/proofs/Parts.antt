@@ -10,7 +10,7 @@ use lib.ListN.{length, getD, take, drop, length-drop, drop-of-length-le}
 use lib.Seq.{drop-cons, take-all, take-nil}
 use Rattle.base.specs.Choice.{pick}
 use Rattle.base.proofs.Numbers.{lt?, same?}
-use Rattle.tables.specs.Interning.{stringsInterned}
+use Rattle.interning.specs.Interning.{stringsInterned}
 use Rattle.strings.specs.Strings.{functionsIn, isUsed, unfitString, Unfit, firstUnfit, allStrings}
 
 -- a part that starts no further than the list and ends neither further nor before its start is the part as it was given

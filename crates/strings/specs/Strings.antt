@@ -10,7 +10,7 @@ use Rattle.input.specs.Layout.{unusedMark}
 use Rattle.input.specs.Forms.{wordsOk}
 use Rattle.shape.specs.Counts.{countsOk}
 use Rattle.shape.specs.Shape.{shapeOk}
-use Rattle.tables.specs.Interning.{stringsInterned}
+use Rattle.interning.specs.Interning.{stringsInterned}
 use Rattle.lists.specs.Lists.{room}
 use Rattle.used.specs.Used.{within}
 use Rattle.strings.specs.declared.Strings.{Strings}

@@ -9,7 +9,7 @@ ghost use lib.ListN.{length, take, drop};
 ghost use Rattle.base.specs.Choice.{pick};
 ghost use Rattle.grow.specs.Growing.{Grows};
 ghost use Rattle.judge.specs.Judged.{verdictNumber};
-ghost use Rattle.tables.specs.Interning.{stringsInterned};
+ghost use Rattle.interning.specs.Interning.{stringsInterned};
 ghost use Rattle.place.specs.Registers.{registers};
 ghost use Rattle.strings.specs.Strings.{functionsIn, isUsed, unfitString, firstUnfit, allStrings, usedOk, outcome, interned};
 
@@ -124,7 +124,7 @@ fn intern_used(ws: &[u32], globals: &mut [u64], e: End) -> End
     if mark != 0 {
         return e;
     }
-    tables::intern_strings(ws, globals, e)
+    interning::intern_strings(ws, globals, e)
 }
 
 // Those of the function between two ends.

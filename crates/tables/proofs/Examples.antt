@@ -9,7 +9,7 @@ use Rattle.rows.specs.Rows.{instrRows, blockRows, rowsFrom, overRows}
 use Rattle.fit.specs.Keys.{keysAt, largest, smallest}
 use Rattle.lower.specs.Instructions.{isGlobal}
 use Rattle.edges.specs.Edges.{edgeSources, edgeDestinations, hasMoves, padCount}
-use Rattle.tables.specs.Interning.{globalOf, intern, internAll, rowConstants, stringsInterned, rowLoaded, globalsAfter, builtinOf, internBuiltin, internBuiltins, rowBuiltins, builtinsAfter}
+use Rattle.interning.specs.Interning.{globalOf, intern, internAll, rowConstants, stringsInterned, rowLoaded, globalsAfter, builtinOf, internBuiltin, internBuiltins, rowBuiltins, builtinsAfter}
 use Rattle.tables.specs.Tables.{firstKey, slotCount, slotFor, storeCases, switchSlots, switchHeads, switchTargets, switchHeadsAfter, switchTargetsAfter, filled, storeEntries, lookupSlots, lookupHeads, lookupValues, slotsIn, blocksHeads, blocksValues, lookupHeadsAfter, lookupValuesAfter}
 
 -- ---- records

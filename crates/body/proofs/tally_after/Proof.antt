@@ -1,7 +1,7 @@
 -- One law for a block with a Switch and one for another.
 use native.Mathlib.Omega.{arith}
 use borrow.Author.Needs.{needs}
-use Rattle.body.proofs.Terms.{switch-near, switch-cases}
+use Rattle.terms.proofs.Terms.{switch-near, switch-cases}
 use Rattle.body.proofs.Blocks.{pads-few, tally-switch, tally-other}
 use Rattle.body.proofs.tally_after.Statement.{statement}
 use Rattle.body.proofs.tally_after.Tie as tie

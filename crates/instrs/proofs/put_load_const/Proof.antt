@@ -3,7 +3,7 @@ use mathlib.Core.Path.{sym, _∙_}
 use Prim.Native.Nat.{_*_}
 use native.Mathlib.Omega.{arith}
 use borrow.Author.Needs.{needs}
-use Rattle.tables.proofs.Found.{global-few}
+use Rattle.interning.proofs.Found.{global-few}
 use Rattle.instrs.proofs.Instrs.{load-global, load-other}
 use Rattle.instrs.proofs.put_load_const.Statement.{statement}
 use Rattle.instrs.proofs.put_load_const.Tie as tie

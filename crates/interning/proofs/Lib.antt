@@ -1,0 +1,3 @@
+pub mod Found
+pub mod Passes
+pub mod Interned
