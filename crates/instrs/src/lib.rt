@@ -9,7 +9,7 @@ ghost use lib.ListN.{length, take, getD};
 ghost use Rattle.base.specs.Choice.{pick};
 ghost use Rattle.base.specs.Lent.{Lowers};
 ghost use Rattle.place.specs.Registers.{registers};
-ghost use Rattle.input.specs.Records.{instrKind, operandCount, destination, payloadOf, call, sys, lookup};
+ghost use Rattle.input.specs.Records.{instrKind, operandCount, destination, call, sys, lookup};
 ghost use Rattle.input.specs.Forms.{instrOk};
 ghost use Rattle.lower.specs.Operands.{placeAt};
 ghost use Rattle.instrs.specs.Instrs.{seen, destPlace, operandPlace, memoryOps, computeOps, loadConstOps, callOps, sysOps, instrOps, lookupsIn, instrsOps};
@@ -112,14 +112,6 @@ fn put_compute(ops: &mut [u64], spans: &mut [u32], p: Pen, ws: &[u32], map: &[u3
     put_memory(ops, spans, p, ws, map, i)
 }
 
-// The 64-bit payload of a constant.
-fn payload_at(ws: &[u32], c: u32) -> u64
-    ensures { λ r. ⌜ r ≡ payloadOf (now (ws .entry)) c ⌝ }
-{
-    let low = input::constant_field(ws, c, 1) as u64;
-    low + 4294967296 * (input::constant_field(ws, c, 2) as u64)
-}
-
 // LoadConst: only a constant that LoadG loads is looked for among the globals.
 fn put_load_const(
     ops: &mut [u64],
@@ -136,7 +128,7 @@ fn put_load_const(
     ensures { λ r. ⌜ ((l : List ℕ) → Lowers (loadConstOps registers (now (ws .entry)) (now (map .entry)) (take (2 * count) (now (globals .entry))) i c) (now (ops .entry)) (now (spans .entry)) l p (now (ops .exit)) (now (spans .exit)) l r) ⌝ }
 {
     let kind = input::constant_field(ws, c, 0);
-    let payload = payload_at(ws, c);
+    let payload = fit::payload_at(ws, c as usize);
     let d = dest_place(ws, map, i);
     if lower::is_global(kind, payload) {
         let g = interning::find_global(globals, count, kind, payload);
