@@ -7,7 +7,8 @@ use lib.Seq.{sets}
 use Rattle.lists.specs.declared.Used.{Used}
 use Rattle.compile.specs.declared.Compiled.{Compiled}
 use Rattle.compile.specs.Program as program
-use Rattle.compile.specs.Program.{Buffers, answerNumber}
+use Rattle.first_checks.specs.Buffers.{Buffers}
+use Rattle.compile.specs.Program.{answerNumber}
 use Rattle.compile.specs.Compile.{compiled}
 use Rattle.strings.specs.declared.Strings.{Strings}
 use Rattle.strings.specs.Strings as strings

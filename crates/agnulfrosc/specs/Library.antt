@@ -7,7 +7,7 @@ use lib.Seq.{sets}
 use Rattle.base.specs.Limits.{mostMoves}
 use Rattle.strings.specs.Strings as strings
 use Rattle.answers.specs.Answers.{usedIn, usedWords, usedAfter}
-use Rattle.compile.specs.Program.{Buffers}
+use Rattle.first_checks.specs.Buffers.{Buffers}
 use Rattle.compile.specs.Compile.{compiled}
 use Rattle.compact.specs.Entry as compact
 use Rattle.moves_entry.specs.declared.Columns.{Columns}

@@ -1,6 +1,6 @@
 -- The used lengths are read, and stored again.
 use Rattle.place.specs.Registers.{registers}
-use Rattle.compile.specs.Program.{lent}
+use Rattle.first_checks.specs.Buffers.{lent}
 use Rattle.agnulfrosc.proofs.Entries.{compiled-then}
 use borrow.Author.Needs.{needs}
 use Rattle.agnulfrosc.proofs.agnulfrosc_compile.Statement.{statement}
