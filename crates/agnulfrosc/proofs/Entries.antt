@@ -2,12 +2,13 @@
 use mathlib.Core.Path.{_≡_, ap, _∙_}
 use mathlib.Core.List.{List, [], _∷_}
 use Prim.Native.Nat.{ℕ}
-use lib.ListN.{getD, set}
+use lib.ListN.{getD}
 use lib.Seq.{sets}
 use Rattle.lists.specs.declared.Used.{Used}
 use Rattle.compile.specs.declared.Compiled.{Compiled}
 use Rattle.compile.specs.Program as program
-use Rattle.compile.specs.Program.{Buffers, answerNumber}
+use Rattle.first_checks.specs.Buffers.{Buffers}
+use Rattle.compile.specs.Program.{answerNumber}
 use Rattle.compile.specs.Compile.{compiled}
 use Rattle.strings.specs.declared.Strings.{Strings}
 use Rattle.strings.specs.Strings as strings
@@ -17,7 +18,8 @@ use Rattle.moves_entry.specs.declared.Columns.{Columns}
 use Rattle.moves_entry.specs.declared.Emitted.{Emitted}
 use Rattle.moves_entry.specs.Entry as entry
 use Rattle.moves_entry.specs.Gathering.{columnsOutcome}
-use Rattle.agnulfrosc.specs.Library.{usedIn, usedWords, leaves, compiledFor, interns, internedFor, usedAfter, compacts, byCompaction, compactedFor, columnsFor, moves, byMoves, movedFor}
+use Rattle.answers.specs.Answers.{usedIn, usedWords, usedAfter}
+use Rattle.agnulfrosc.specs.Library.{leaves, compiledFor, interns, internedFor, compacts, byCompaction, compactedFor, columnsFor, moves, byMoves, movedFor}
 
 -- compiling: the used lengths are read, and stored again
 pub compiled-then : (n : ℕ) (ws used : List ℕ) (b : Buffers) (r : Compiled) (u : Used) → u ≡ usedIn used
@@ -33,11 +35,11 @@ compiled-then n ws used b r u eu after e stored es number en =
 pub interned-then : (n : ℕ) (words ends globals answer : List ℕ) (r : Strings) (used : ℕ) → used ≡ getD answer 0 0
     → (after : List ℕ) → strings.outcome r used after ≡ strings.interned n words ends globals used
     → (number : ℕ) → number ≡ strings.numberFor r → (new : ℕ) → new ≡ strings.usedFor used r → (index : ℕ) → index ≡ strings.indexFor r
-    → (one both : List ℕ) → one ≡ set answer 0 new → both ≡ set one 1 index
+    → (both : List ℕ) → both ≡ sets answer 0 (new ∷ index ∷ [])
     → interns number both after ≡ internedFor n words ends globals answer
 unfolding internedFor
-interned-then n words ends globals answer r used eu after e number en new ew index ei one both e1 e2 =
-    rw (e2, e1, en, ew, ei)
+interned-then n words ends globals answer r used eu after e number en new ew index ei both es =
+    rw (es, en, ew, ei)
     (ap (λ (o : strings.Outcome). interns (o .number) (sets answer 0 (o .used ∷ o .index ∷ [])) (o .globals))
     (e ∙ ap (strings.interned n words ends globals) eu))
 

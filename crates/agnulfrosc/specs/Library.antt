@@ -2,35 +2,17 @@
 -- for is 0 and is not written.
 use Prim.Native.Nat.{ℕ}
 use mathlib.Core.List.{List, [], _∷_}
-use lib.Dec.{eqb}
 use lib.ListN.{length, getD, replicate}
 use lib.Seq.{sets}
-use Rattle.base.specs.Choice.{pick}
 use Rattle.base.specs.Limits.{mostMoves}
-use Rattle.lists.specs.declared.Used.{Used}
 use Rattle.strings.specs.Strings as strings
-use Rattle.compile.specs.Program.{Buffers}
+use Rattle.answers.specs.Answers.{usedIn, usedWords, usedAfter}
+use Rattle.first_checks.specs.Buffers.{Buffers}
 use Rattle.compile.specs.Compile.{compiled}
 use Rattle.compact.specs.Entry as compact
 use Rattle.moves_entry.specs.declared.Columns.{Columns}
 use Rattle.moves_entry.specs.Entry as entry
 use Rattle.moves_entry.specs.Gathering.{columnsOutcome}
-
--- the used lengths in order: ops, globals, builtins, switch tables, their slots, lookup tables, their slots
-abbrev pub usedIn : List ℕ → Used
-usedIn l =
-    record {
-      ops = getD l 0 0;
-      globals = getD l 1 0;
-      builtins = getD l 2 0;
-      switches = getD l 3 0;
-      targets = getD l 4 0;
-      lookups = getD l 5 0;
-      values = getD l 6 0;
-    }
-
-abbrev pub usedWords : Used → List ℕ
-usedWords u = u .ops ∷ u .globals ∷ u .builtins ∷ u .switches ∷ u .targets ∷ u .lookups ∷ u .values ∷ []
 
 -- what compiling leaves: the number, the used lengths as words, every buffer
 pub record Compiled : Type 0 where
@@ -73,10 +55,6 @@ pub record Compacted : Type 0 where
 abbrev pub compacts : ℕ → List ℕ → List ℕ → List ℕ → List ℕ → List ℕ → List ℕ → Compacted
 compacts number used ops spans targets functions work =
     record { number = number; used = used; ops = ops; spans = spans; targets = targets; functions = functions; work = work }
-
--- the used length where the number is 0
-abbrev pub usedAfter : List ℕ → ℕ → ℕ → List ℕ
-usedAfter used number new = pick (eqb number 0) (sets used 0 (new ∷ [])) used
 
 abbrev pub byCompaction : List ℕ → compact.Outcome → Compacted
 byCompaction used o =

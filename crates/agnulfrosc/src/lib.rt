@@ -1,6 +1,7 @@
 // The entries for other languages; include/agnulfrosc.h declares them.
+use answers::Numbers;
 use compact::Compacted;
-use lists::Used;
+use compile::Compiled;
 use moves_entry::Columns;
 use moves_entry::Emitted;
 use op::Decoded;
@@ -8,13 +9,15 @@ use strings::Strings;
 ghost use mathlib.Core.Path.{_≡_};
 ghost use Rattle.place.specs.Registers.{registers};
 ghost use Rattle.judge.specs.Judged.{unfit};
-ghost use Rattle.compile.specs.Program.{lent};
+ghost use Rattle.first_checks.specs.Buffers.{lent};
+ghost use Rattle.compile.specs.Program.{answerNumber};
 ghost use Rattle.strings.specs.Strings.{numberFor, indexFor, usedFor};
 ghost use Rattle.compact.specs.Entry as entries;
 ghost use Rattle.moves_entry.specs.Entry as moveEntries;
 ghost use Rattle.op.specs.Words as words;
 ghost use Rattle.op.specs.Words.{parts};
-ghost use Rattle.agnulfrosc.specs.Library.{usedIn, usedWords, leaves, compiledFor, interns, internedFor, usedAfter, compacts, compactedFor, columnsFor, moves, movedFor};
+ghost use Rattle.answers.specs.Answers.{usedWords};
+ghost use Rattle.agnulfrosc.specs.Library.{leaves, compiledFor, interns, internedFor, compacts, compactedFor, columnsFor, moves, movedFor};
 ghost use lib.Seq.{sets};
 
 // The lowest number from 1 to 7 that applies to a function, 0 for none.
@@ -25,30 +28,14 @@ pub extern "C" fn agnulfrosc_judge(words: &[u32], functions: &[u64]) -> u8
     judge::number_of(judge::judge(words, functions))
 }
 
-fn used_in(l: &[u64]) -> Used
-    ensures { λ r. ⌜ r ≡ usedIn (now (l .entry)) ⌝ }
+// The number of a compiled function; its used lengths are stored.
+fn answer_compiled(r: Compiled, used: &mut [u64]) -> u8
+    ensures { λ n. ⌜ (n ≡ answerNumber (r .answer)) × (now (used .exit) ≡ sets (now (used .entry)) 0 (usedWords (r .used))) ⌝ }
 {
-    Used {
-        ops: base::get64(l, 0) as usize,
-        globals: base::get64(l, 1) as usize,
-        builtins: base::get64(l, 2) as usize,
-        switches: base::get64(l, 3) as usize,
-        targets: base::get64(l, 4) as usize,
-        lookups: base::get64(l, 5) as usize,
-        values: base::get64(l, 6) as usize,
-    }
-}
-
-fn store_used(l: &mut [u64], u: Used)
-    ensures { λ _. ⌜ now (l .exit) ≡ sets (now (l .entry)) 0 (usedWords u) ⌝ }
-{
-    base::set64(l, 0, u.ops as u64);
-    base::set64(l, 1, u.globals as u64);
-    base::set64(l, 2, u.builtins as u64);
-    base::set64(l, 3, u.switches as u64);
-    base::set64(l, 4, u.targets as u64);
-    base::set64(l, 5, u.lookups as u64);
-    base::set64(l, 6, u.values as u64);
+    let a = r.answer;
+    let u = r.used;
+    answers::store_used(used, u);
+    compile::number_of(a)
 }
 
 // One function; its number from 0 to 9.
@@ -87,21 +74,12 @@ pub extern "C" fn agnulfrosc_compile(
         hints,
         noted,
         labels,
-        used_in(used),
+        answers::used_in(used),
     );
-    let a = r.answer;
-    let u = r.used;
-    store_used(used, u);
-    compile::number_of(a)
+    answer_compiled(r, used)
 }
 
 // A number and an index for each answer of the string entry, and the used length where it stays.
-struct Numbers {
-    number: u8,
-    used: usize,
-    index: usize,
-}
-
 fn strings_numbers(r: Strings, used: usize) -> Numbers
     ensures { λ n. ⌜ (n .number ≡ numberFor r) × (n .used ≡ usedFor used r) × (n .index ≡ indexFor r) ⌝ }
 {
@@ -146,8 +124,7 @@ pub extern "C" fn agnulfrosc_strings(
 {
     let used = base::get64(answer, 0) as usize;
     let n = strings_numbers(strings::intern_strings(words, ends, globals, used), used);
-    base::set64(answer, 0, n.used as u64);
-    base::set64(answer, 1, n.index as u64);
+    answers::store_both(answer, n);
     n.number
 }
 
@@ -177,15 +154,6 @@ fn refused(number: u8) -> Numbers
     }
 }
 
-// The new used length, where the number is 0.
-fn store_new(used: &mut [u64], n: Numbers)
-    ensures { λ _. ⌜ now (used .exit) ≡ usedAfter (now (used .entry)) (n .number) (n .used) ⌝ }
-{
-    if n.number == 0 {
-        base::set64(used, 0, n.used as u64);
-    }
-}
-
 // Nop compaction.
 #[no_mangle]
 pub extern "C" fn agnulfrosc_compact(
@@ -207,7 +175,7 @@ pub extern "C" fn agnulfrosc_compact(
         functions,
         work,
     ));
-    store_new(used, n);
+    answers::store_new(used, n);
     n.number
 }
 
@@ -260,7 +228,7 @@ pub extern "C" fn agnulfrosc_moves(
         span,
         c,
     ));
-    store_new(used, n);
+    answers::store_new(used, n);
     n.number
 }
 

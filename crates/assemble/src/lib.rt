@@ -4,7 +4,7 @@ use lists::Tried;
 use lists::Used;
 use placing::Placed;
 ghost use mathlib.Core.Path.{_≡_};
-ghost use Prim.Native.Nat.{ℕ, _*_, _≤_, min};
+ghost use Prim.Native.Nat.{_*_, _≤_};
 ghost use lib.ListN.{take};
 ghost use Rattle.place.specs.Registers.{registers};
 ghost use Rattle.input.specs.Layout.{values};
@@ -136,21 +136,6 @@ fn put_ops(
     )
 }
 
-// The used lengths with another number of ops.
-fn with_ops(u: Used, ops: usize) -> Used
-    ensures { λ r. ⌜ r ≡ record { ops = ops; globals = u .globals; builtins = u .builtins; switches = u .switches; targets = u .targets; lookups = u .lookups; values = u .values } ⌝ }
-{
-    Used {
-        ops: ops,
-        globals: u.globals,
-        builtins: u.builtins,
-        switches: u.switches,
-        targets: u.targets,
-        lookups: u.lookups,
-        values: u.values,
-    }
-}
-
 // The function whole, unless a number says that it is refused. Where it finds no room, the table is as it was.
 pub fn put_function(
     k: u8,
@@ -199,6 +184,6 @@ pub fn put_function(
     }
     Tried {
         number: 0,
-        used: with_ops(l, q.at),
+        used: used::with_ops(l, q.at),
     }
 }

@@ -27,9 +27,10 @@ use Rattle.lists.specs.declared.Tried.{Tried}
 use Rattle.lists.specs.Lists.{Lists, listsAfter, listsFit, Started, ListsReady, Made, Listed}
 use Rattle.assemble.specs.Assemble.{functionsAfter, startOut, functionOut, opRoom, Lowerable, PlacesReady, ProgramReady, Put, Assembled}
 use Rattle.used.specs.Used.{labelsFor, labelsAt}
-use Rattle.compile.specs.Program.{Buffers, listsOf, lent}
-use Rattle.compile.specs.Compile.{usedOk, placesOf, newLists, finalOut, newTargets, entryOk, roomOk, refusal, doneOf}
-use Rattle.compile.specs.Attempt.{Sized, Finished, Kept, Attempted}
+use Rattle.first_checks.specs.Buffers.{Buffers, listsOf, lent}
+use Rattle.first_checks.specs.Checks.{usedOk, entryOk, Sized}
+use Rattle.compile.specs.Compile.{placesOf, newLists, finalOut, newTargets, roomOk, refusal, doneOf}
+use Rattle.compile.specs.Attempt.{Finished, Kept, Attempted}
 use Rattle.placing.proofs.Low.{places-are, places-low}
 use Rattle.compile.proofs.Lowerable.{ready-given, lowerable-given}
 use Rattle.lists.proofs.Made.{Counted, counted, listed-fits}
@@ -182,10 +183,10 @@ module _ (n : ℕ) (most : n ≤ 64) (ws : List ℕ) (u : Used) (b : Buffers) (w
           counted ws (placesOf n ws) u (listsOf b) (used-then (entered-none z) .started)
           (sym (ap (listsFit (listsOf b)) (lists-are (entered-none z))) ∙ listed-fits listed z .1) (made-then z)
 
-      pub lowerable-then : l .number ≡ 0 → Lowerable ws
+      lowerable-then : l .number ≡ 0 → Lowerable ws
       lowerable-then z = lowerable-given n most ws (b .functions) word (early-none (early-then (entered-none z)) .1)
 
-      pub places-then : l .number ≡ 0 → PlacesReady ws places′ noted′ p
+      places-then : l .number ≡ 0 → PlacesReady ws places′ noted′ p
       places-then z =
           let g = given-then (entered-none z) in
           record {
@@ -196,7 +197,7 @@ module _ (n : ℕ) (most : n ≤ 64) (ws : List ℕ) (u : Used) (b : Buffers) (w
             top-low = g .top-low;
           }
 
-      pub program-then : l .number ≡ 0 → ProgramReady ws (b .functions) (b .ops) (b .spans) (lists′ .globals) (lists′ .builtins) u (l .used)
+      program-then : l .number ≡ 0 → ProgramReady ws (b .functions) (b .ops) (b .spans) (lists′ .globals) (lists′ .builtins) u (l .used)
       program-then z =
           let s = used-then (entered-none z) in
           let i = counted-then z in
@@ -212,6 +213,12 @@ module _ (n : ℕ) (most : n ≤ 64) (ws : List ℕ) (u : Used) (b : Buffers) (w
               builtins-few = i .builtins-few;
             };
           }
+
+      -- all that putting the function needs
+      pub put-ready : (l .number ≡ 0 → Lowerable ws)
+          × ((l .number ≡ 0 → PlacesReady ws places′ noted′ p)
+          × (l .number ≡ 0 → ProgramReady ws (b .functions) (b .ops) (b .spans) (lists′ .globals) (lists′ .builtins) u (l .used)))
+      put-ready = (lowerable-then, (places-then, program-then))
 
       -- what is put is what the definition says
       out-is : l .number ≡ 0 → outOf n ws b u places′ noted′ lists′ (l .used) p ≡ finalOut n ws b u

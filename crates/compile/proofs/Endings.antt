@@ -1,4 +1,5 @@
 -- How an attempt ends: zeroing the work room, and where it is refused the rest behind the used lengths, gives what the definition says.
+use mathlib.Core.Logic.{⊎-elim}
 use mathlib.Core.Path.{_≡_, refl, sym, _∙_}
 use mathlib.Core.Bool.{Bool, true, false}
 use mathlib.Core.List.{List}
@@ -9,7 +10,7 @@ use lib.Dec.{eqb}
 use lib.ListN.{length}
 use Rattle.base.specs.Choice.{pick}
 use Rattle.base.specs.Buffers.{zeroFrom}
-use Rattle.base.proofs.Numbers.{pick-true, pick-false}
+use Rattle.base.proofs.Numbers.{pick-true, pick-false, same?}
 use Rattle.base.proofs.Buffers.{zeroFrom-same}
 use Rattle.input.specs.Forms.{wordsOk}
 use Rattle.shape.specs.Counts.{countsOk}
@@ -20,12 +21,14 @@ use Rattle.fit.specs.Keys.{keyedOk}
 use Rattle.judge.specs.Judged.{unfit}
 use Rattle.assign.specs.Walk.{slotsOk}
 use Rattle.lists.specs.declared.Used.{Used}
-use Rattle.compile.specs.declared.Answer.{Answer}
-use Rattle.compile.specs.declared.Answer.the-variants as a
 use Rattle.lists.specs.declared.Tried.{Tried}
-use Rattle.compile.specs.Program.{Buffers, Outcome, answerNumber, lent, outcome}
 use Rattle.lists.specs.Lists.{globalWords, switchWords, lookupWords, valueWords}
-use Rattle.compile.specs.Compile.{usedOk, roomOk, refusal, doneOf, refusedOf, compiled}
+use Rattle.used.specs.Used.{wiped}
+use Rattle.first_checks.specs.Buffers.{Buffers, lent}
+use Rattle.first_checks.specs.Checks.{usedOk}
+use Rattle.compile.specs.declared.Compiled.{Compiled}
+use Rattle.compile.specs.Program.{Outcome, answerNumber, outcome}
+use Rattle.compile.specs.Compile.{roomOk, refusal, doneOf, refusedOf, compiled}
 use Rattle.compile.specs.Attempt.{Attempted}
 
 -- a number of refusal is at most 9
@@ -81,59 +84,93 @@ outcomes o k u ops spans globals builtins functions switches targets lookups val
 zeroed : (x y : List ℕ) → length x ≡ length y → zeroFrom x 0 ≡ zeroFrom y 0
 zeroed x y e = zeroFrom-same x y 0 refl e
 
-module _ {n : ℕ} {ws : List ℕ} {u : Used} {b b′ : Buffers} {r : Tried} (at : Attempted n ws u b b′ r) where
-  pub number-small : r .number ≤ 9
-  number-small = rw (at .number-is) (refusal-small n ws b u)
+-- the steps behind a number: nothing is wiped where it is 0
+left-as : (k : ℕ) (l x : List ℕ) (used : ℕ) → k ≡ 0 → x ≡ wiped k l used → x ≡ l
+left-as k l x used z e = e ∙ pick-true (eqb k 0) l (zeroFrom l used) (eq-eqb k 0 z)
 
-  module _ (hints noted labels : List ℕ) (eh : hints ≡ zeroFrom (b′ .hints) 0) (en : noted ≡ zeroFrom (b′ .noted) 0) (el : labels ≡ zeroFrom (b′ .labels) 0) where
-    hints-zero : hints ≡ zeroFrom (b .hints) 0
-    hints-zero = eh ∙ zeroed (b′ .hints) (b .hints) (at .hints-same)
+zeroed-from : (k : ℕ) (l x : List ℕ) (used : ℕ) → (k ≡ 0 → ⊥) → x ≡ wiped k l used → x ≡ zeroFrom l used
+zeroed-from k l x used z e = e ∙ pick-false (eqb k 0) l (zeroFrom l used) (ne-eqb k 0 z)
 
-    noted-zero : noted ≡ zeroFrom (b .noted) 0
-    noted-zero = en ∙ zeroed (b′ .noted) (b .noted) (at .noted-same)
+module _ {n : ℕ} {ws : List ℕ} {u : Used} {b b′ : Buffers} {r : Tried} (at : Attempted n ws u b b′ r) (x : Compiled)
+    (answered : r .number ≤ 9 → answerNumber (x .answer) ≡ r .number) (new : x .used ≡ pick (eqb (r .number) 0) (r .used) u)
+    {ops spans globals builtins switches targets lookups values places hints noted labels : List ℕ}
+    (qo : ops ≡ wiped (r .number) (b′ .ops) (u .ops))
+    (qs : spans ≡ wiped (r .number) (b′ .spans) (u .ops))
+    (qg : globals ≡ wiped (r .number) (b′ .globals) (globalWords u))
+    (qb : builtins ≡ wiped (r .number) (b′ .builtins) (u .builtins))
+    (qw : switches ≡ wiped (r .number) (b′ .switches) (switchWords u))
+    (qt : targets ≡ wiped (r .number) (b′ .targets) (u .targets))
+    (ql : lookups ≡ wiped (r .number) (b′ .lookups) (lookupWords u))
+    (qv : values ≡ wiped (r .number) (b′ .values) (valueWords u))
+    (qp : places ≡ wiped (r .number) (b′ .places) 0)
+    (qh : hints ≡ zeroFrom (b′ .hints) 0)
+    (qn : noted ≡ zeroFrom (b′ .noted) 0)
+    (qk : labels ≡ zeroFrom (b′ .labels) 0) where
+  number-is : answerNumber (x .answer) ≡ refusal n ws b u
+  number-is =
+      let small : r .number ≤ 9 = rw (at .number-is) (refusal-small n ws b u) in
+      answered small ∙ at .number-is
 
-    labels-zero : labels ≡ zeroFrom (b .labels) 0
-    labels-zero = el ∙ zeroed (b′ .labels) (b .labels) (at .labels-same)
+  hints-zero : hints ≡ zeroFrom (b .hints) 0
+  hints-zero = qh ∙ zeroed (b′ .hints) (b .hints) (at .hints-same)
 
-    done-is : r .number ≡ 0 → doneOf n ws b u ≡ compiled n ws b u
-    unfolding compiled
-    done-is z = sym (pick-true (eqb (refusal n ws b u) 0) _ _ (eq-eqb _ 0 (sym (at .number-is) ∙ z)))
+  noted-zero : noted ≡ zeroFrom (b .noted) 0
+  noted-zero = qn ∙ zeroed (b′ .noted) (b .noted) (at .noted-same)
 
-    pub ends-done : r .number ≡ 0
-        → outcome (record { answer = a.Done; used = r .used })
-        (lent (b′ .ops) (b′ .spans) (b′ .globals) (b′ .builtins) (b′ .functions) (b′ .switches) (b′ .targets) (b′ .lookups) (b′ .values) (b′ .places) hints noted labels)
-        ≡ compiled n ws b u
-    unfolding doneOf
-    ends-done z =
-        let f = at .done z in
-        outcomes (doneOf n ws b u) 0 (r .used) _ _ _ _ _ _ _ _ _ _ _ _ _ refl (f .used-is) (f .ops-is) (f .spans-is) (f .globals-is)
-        (f .builtins-is) (f .functions-is) (f .switches-is) (f .targets-is) (f .lookups-is) (f .values-is) (f .places-is) hints-zero noted-zero labels-zero
-        ∙ done-is z
+  labels-zero : labels ≡ zeroFrom (b .labels) 0
+  labels-zero = qk ∙ zeroed (b′ .labels) (b .labels) (at .labels-same)
 
-    refused-is : (r .number ≡ 0 → ⊥) → refusedOf (refusal n ws b u) b u ≡ compiled n ws b u
-    unfolding compiled
-    refused-is z =
-        sym (pick-false (eqb (refusal n ws b u) 0) _ _ (ne-eqb _ 0 (λ (e : refusal n ws b u ≡ 0). z (at .number-is ∙ e))))
+  abbrev left : Outcome
+  left = outcome x (lent ops spans globals builtins (b′ .functions) switches targets lookups values places hints noted labels)
 
-    pub ends-refused : (r .number ≡ 0 → ⊥) → (answer : Answer) → answerNumber answer ≡ r .number
-        → (ops spans globals builtins switches targets lookups values places : List ℕ)
-        → ops ≡ zeroFrom (b′ .ops) (u .ops)
-        → spans ≡ zeroFrom (b′ .spans) (u .ops)
-        → globals ≡ zeroFrom (b′ .globals) (globalWords u)
-        → builtins ≡ zeroFrom (b′ .builtins) (u .builtins)
-        → switches ≡ zeroFrom (b′ .switches) (switchWords u)
-        → targets ≡ zeroFrom (b′ .targets) (u .targets)
-        → lookups ≡ zeroFrom (b′ .lookups) (lookupWords u)
-        → values ≡ zeroFrom (b′ .values) (valueWords u)
-        → places ≡ zeroFrom (b′ .places) 0
-        → outcome (record { answer = answer; used = u })
-        (lent ops spans globals builtins (b′ .functions) switches targets lookups values places hints noted labels)
-        ≡ compiled n ws b u
-    unfolding refusedOf
-    ends-refused z answer e ops spans globals builtins switches targets lookups values places qo qs qg qb qw qt ql qv qp =
-        let k = at .refused z in
-        outcomes (refusedOf (refusal n ws b u) b u) (answerNumber answer) u _ _ _ _ _ _ _ _ _ _ _ _ _ (e ∙ at .number-is) refl
-        (qo ∙ k .ops-kept) (qs ∙ k .spans-kept) (qg ∙ k .globals-kept) (qb ∙ k .builtins-kept) (k .functions-kept) (qw ∙ k .switches-kept)
-        (qt ∙ k .targets-kept) (ql ∙ k .lookups-kept) (qv ∙ k .values-kept) (qp ∙ zeroed (b′ .places) (b .places) (at .places-same))
-        hints-zero noted-zero labels-zero
-        ∙ refused-is z
+  done-is : r .number ≡ 0 → doneOf n ws b u ≡ compiled n ws b u
+  unfolding compiled
+  done-is z = sym (pick-true (eqb (refusal n ws b u) 0) _ _ (eq-eqb _ 0 (sym (at .number-is) ∙ z)))
+
+  ends-done : r .number ≡ 0 → left ≡ compiled n ws b u
+  unfolding doneOf
+  ends-done z =
+      let f = at .done z in
+      let k = r .number in
+      outcomes (doneOf n ws b u) _ (x .used) _ _ _ _ _ _ _ _ _ _ _ _ _ (number-is ∙ sym (at .number-is) ∙ z)
+      (new ∙ pick-true (eqb (r .number) 0) (r .used) u (eq-eqb (r .number) 0 z) ∙ f .used-is)
+      (left-as k (b′ .ops) ops (u .ops) z qo ∙ f .ops-is)
+      (left-as k (b′ .spans) spans (u .ops) z qs ∙ f .spans-is)
+      (left-as k (b′ .globals) globals (globalWords u) z qg ∙ f .globals-is)
+      (left-as k (b′ .builtins) builtins (u .builtins) z qb ∙ f .builtins-is)
+      (f .functions-is)
+      (left-as k (b′ .switches) switches (switchWords u) z qw ∙ f .switches-is)
+      (left-as k (b′ .targets) targets (u .targets) z qt ∙ f .targets-is)
+      (left-as k (b′ .lookups) lookups (lookupWords u) z ql ∙ f .lookups-is)
+      (left-as k (b′ .values) values (valueWords u) z qv ∙ f .values-is)
+      (left-as k (b′ .places) places 0 z qp ∙ f .places-is)
+      hints-zero noted-zero labels-zero
+      ∙ done-is z
+
+  refused-is : (r .number ≡ 0 → ⊥) → refusedOf (refusal n ws b u) b u ≡ compiled n ws b u
+  unfolding compiled
+  refused-is z =
+      sym (pick-false (eqb (refusal n ws b u) 0) _ _ (ne-eqb _ 0 (λ (e : refusal n ws b u ≡ 0). z (at .number-is ∙ e))))
+
+  ends-refused : (r .number ≡ 0 → ⊥) → left ≡ compiled n ws b u
+  unfolding refusedOf
+  ends-refused z =
+      let f = at .refused z in
+      let k = r .number in
+      outcomes (refusedOf (refusal n ws b u) b u) _ (x .used) _ _ _ _ _ _ _ _ _ _ _ _ _ number-is
+      (new ∙ pick-false (eqb (r .number) 0) (r .used) u (ne-eqb (r .number) 0 z))
+      (zeroed-from k (b′ .ops) ops (u .ops) z qo ∙ f .ops-kept)
+      (zeroed-from k (b′ .spans) spans (u .ops) z qs ∙ f .spans-kept)
+      (zeroed-from k (b′ .globals) globals (globalWords u) z qg ∙ f .globals-kept)
+      (zeroed-from k (b′ .builtins) builtins (u .builtins) z qb ∙ f .builtins-kept)
+      (f .functions-kept)
+      (zeroed-from k (b′ .switches) switches (switchWords u) z qw ∙ f .switches-kept)
+      (zeroed-from k (b′ .targets) targets (u .targets) z qt ∙ f .targets-kept)
+      (zeroed-from k (b′ .lookups) lookups (lookupWords u) z ql ∙ f .lookups-kept)
+      (zeroed-from k (b′ .values) values (valueWords u) z qv ∙ f .values-kept)
+      (zeroed-from k (b′ .places) places 0 z qp ∙ zeroed (b′ .places) (b .places) (at .places-same))
+      hints-zero noted-zero labels-zero
+      ∙ refused-is z
+
+  pub ends : left ≡ compiled n ws b u
+  ends = ⊎-elim ends-done ends-refused (same? (r .number) 0)

@@ -7,22 +7,9 @@ use Rattle.base.specs.Buffers.{zeroFrom}
 use Rattle.lists.specs.declared.Used.{Used}
 use Rattle.lists.specs.declared.Tried.{Tried}
 use Rattle.lists.specs.Lists.{globalWords, switchWords, lookupWords, valueWords}
-use Rattle.compile.specs.declared.Lengths.{Lengths}
-use Rattle.compile.specs.Program.{Buffers, Outcome}
+use Rattle.first_checks.specs.Buffers.{Buffers}
+use Rattle.compile.specs.Program.{Outcome}
 use Rattle.compile.specs.Compile.{refusal, doneOf}
-
--- the lengths of the buffers
-pub record Sized (n : Lengths) (b : Buffers) : Type 0 where
-  pub ops : n .ops ≡ length (b .ops)
-  pub spans : n .spans ≡ length (b .spans)
-  pub globals : n .globals ≡ length (b .globals)
-  pub builtins : n .builtins ≡ length (b .builtins)
-  pub functions : n .functions ≡ length (b .functions)
-  pub switches : n .switches ≡ length (b .switches)
-  pub targets : n .targets ≡ length (b .targets)
-  pub lookups : n .lookups ≡ length (b .lookups)
-  pub values : n .values ≡ length (b .values)
-  pub labels : n .labels ≡ length (b .labels)
 
 -- Done, but for the work room: the used lengths and every output buffer.
 pub record Finished (o : Outcome) (u : Used) (b : Buffers) : Type 0 where

@@ -1,15 +1,13 @@
 -- Compiling one function, on a machine with n registers: one equation of everything lent and answered.
-use Prim.Native.Nat.{ℕ, _+_, _*_, _-_, _/_, min}
-use mathlib.Core.Bool.{Bool, true, false}
-use mathlib.Core.List.{List, [], _∷_, _++_, map}
-use lib.Dec.{leb, ltb, eqb}
-use lib.ListN.{length, getD, take, drop}
+use Prim.Native.Nat.{ℕ, _/_}
+use mathlib.Core.Bool.{Bool}
+use mathlib.Core.List.{List, _++_}
+use lib.Dec.{leb, eqb}
+use lib.ListN.{length, take, drop}
 use lib.Seq.{sets}
 use Rattle.base.specs.Choice.{pick}
-use Rattle.base.specs.Limits.{mostOfAKind}
 use Rattle.base.specs.Buffers.{zeroFrom}
 use Rattle.base.specs.Emission.{Out}
-use Rattle.input.specs.Layout.{functionId}
 use Rattle.input.specs.Forms.{both, wordsOk}
 use Rattle.judge.specs.Judged.{unfit}
 use Rattle.assign.specs.Walk.{assigned, slotsMade, topUsed, slotsOk}
@@ -17,21 +15,11 @@ use Rattle.placing.specs.Placing.{roomOk as placesFit}
 use Rattle.instrs.specs.Instrs.{Env, seen}
 use Rattle.lists.specs.declared.Used.{Used}
 use Rattle.lists.specs.Lists.{Lists, globalWords, switchWords, lookupWords, valueWords, listsAfter, listsFit}
-use Rattle.used.specs.Used.{within, slotsWithin, labelsFor, labelsAt}
+use Rattle.used.specs.Used.{labelsAt}
+use Rattle.first_checks.specs.Buffers.{Buffers, listsOf}
+use Rattle.first_checks.specs.Checks.{usedOk, entryOk}
 use Rattle.assemble.specs.Assemble.{functionsAfter, startOut, functionOut, opRoom}
-use Rattle.compile.specs.Program.{Buffers, Outcome, listsOf}
-
--- 2: a used length beyond its buffer, or of a kind above 65,534
-unfoldable pub usedOk : Buffers → Used → Bool
-usedOk b u =
-    both (within 1 (u .ops) (length (b .ops)))
-    (both (within 1 (u .ops) (length (b .spans)))
-    (both (within 2 (u .globals) (length (b .globals)))
-    (both (within 1 (u .builtins) (length (b .builtins)))
-    (both (within 3 (u .switches) (length (b .switches)))
-    (both (slotsWithin 1 (u .targets) (length (b .targets)))
-    (both (within 5 (u .lookups) (length (b .lookups)))
-    (slotsWithin 2 (u .values) (length (b .values)))))))))
+use Rattle.compile.specs.Program.{Outcome}
 
 -- The places of the values, and the program behind its used lengths: the function's own entry in the table is the pc that it starts at, its
 -- constants and builtins are interned, strings first, its tables added.
@@ -60,11 +48,7 @@ abbrev pub newTargets : ℕ → List ℕ → Buffers → Used → List ℕ
 newTargets n ws b u =
     take (u .targets) (newLists n ws b u .targets) ++ labelsAt (finalOut n ws b u .labels) (drop (u .targets) (newLists n ws b u .targets))
 
--- 9: the finished function needs more than is lent, or passes 65,534 of a kind: labels and an entry in the function table,
-unfoldable pub entryOk : List ℕ → Buffers → Bool
-entryOk ws b =
-    both (leb (labelsFor ws) (length (b .labels))) (ltb (functionId ws) (min (length (b .functions)) mostOfAKind))
-
+-- 9: the finished function needs more than is lent, or passes 65,534 of a kind
 unfoldable pub roomOk : ℕ → List ℕ → Buffers → Used → Bool
 roomOk n ws b u =
     both (placesFit ws (b .places) (b .hints) (b .noted))

@@ -1,15 +1,15 @@
 // Compiling one function.
+use first_checks::Lengths;
+use lists::Tried;
 use lists::Used;
 ghost use mathlib.Core.Path.{_≡_};
 ghost use Prim.Native.Nat.{_≤_};
 ghost use lib.Dec.{eqb};
 ghost use Rattle.base.specs.Choice.{pick};
 ghost use Rattle.place.specs.Registers.{registers};
-ghost use Rattle.input.specs.Forms.{wordsOk};
-ghost use Rattle.judge.specs.Judged.{unfit};
-ghost use Rattle.compile.specs.Program.{Buffers, answerNumber, lent, outcome};
-ghost use Rattle.compile.specs.Compile.{usedOk, entryOk, compiled};
-ghost use Rattle.compile.specs.Attempt.{Sized};
+ghost use Rattle.first_checks.specs.Buffers.{lent};
+ghost use Rattle.compile.specs.Program.{answerNumber, outcome};
+ghost use Rattle.compile.specs.Compile.{compiled};
 
 pub enum Answer {
     Done,
@@ -28,9 +28,6 @@ pub struct Compiled {
     pub answer: Answer,
     pub used: Used,
 }
-
-// The most of a kind in a program.
-const MOST: usize = 65534;
 
 // Document 01's number of an answer, and the answer of a number.
 pub fn number_of(a: Answer) -> u8
@@ -51,8 +48,7 @@ pub fn number_of(a: Answer) -> u8
 }
 
 fn answer_of(number: u8) -> Answer
-    requires { ⌜ number ≤ 9 ⌝ }
-    ensures { λ r. ⌜ answerNumber r ≡ number ⌝ }
+    ensures { λ r. ⌜ (number ≤ 9 → answerNumber r ≡ number) ⌝ }
 {
     match number {
         0 => Answer::Done,
@@ -68,68 +64,21 @@ fn answer_of(number: u8) -> Answer
     }
 }
 
-// The lengths of the lent buffers.
-struct Lengths {
-    ops: usize,
-    spans: usize,
-    globals: usize,
-    builtins: usize,
-    functions: usize,
-    switches: usize,
-    targets: usize,
-    lookups: usize,
-    values: usize,
-    labels: usize,
-}
-
-// No used length passes its buffer.
-fn used_ok(n: Lengths, u: Used) -> bool
-    ensures { λ r. ⌜ ((b : Buffers) → Sized n b → r ≡ usedOk b u) ⌝ }
+// What comes back: the used lengths behind the function, or the old ones where it is refused.
+fn answer_for(f: Tried, old: Used) -> Compiled
+    ensures { λ r. ⌜ (f .number ≤ 9 → answerNumber (r .answer) ≡ f .number) × (r .used ≡ pick (eqb (f .number) 0) (f .used) old) ⌝ }
 {
-    used::within(1, u.ops, n.ops)
-        & used::within(1, u.ops, n.spans)
-        & used::within(2, u.globals, n.globals)
-        & used::within(1, u.builtins, n.builtins)
-        & used::within(3, u.switches, n.switches)
-        & used::slots_within(1, u.targets, n.targets)
-        & used::within(5, u.lookups, n.lookups)
-        & used::slots_within(2, u.values, n.values)
-}
-
-// Refusals 1 to 7, 0 for none.
-fn early(ws: &[u32], functions: &[u64], n: Lengths, u: Used) -> u8
-    ensures { λ r. ⌜ ((b : Buffers) → Sized n b → r ≡ pick (wordsOk (now (ws .entry))) (pick (usedOk b u) (unfit registers (now (ws .entry)) (now (functions .entry))) 2) 1) ⌝ }
-{
-    let v = judge::number_of(judge::judge(ws, functions));
-    if v == 1 {
-        return 1;
+    if f.number == 0 {
+        let new = f.used;
+        return Compiled {
+            answer: Answer::Done,
+            used: new,
+        };
     }
-    if used_ok(n, u) {
-        return v;
+    Compiled {
+        answer: answer_of(f.number),
+        used: old,
     }
-    2
-}
-
-// Labels, and an entry in the function table.
-fn enough(ws: &[u32], n: Lengths) -> bool
-    ensures { λ r. ⌜ ((b : Buffers) → Sized n b → r ≡ entryOk (now (ws .entry)) b) ⌝ }
-{
-    let labels = used::labels_for(ws);
-    let id = input::head_field(ws, 0) as usize;
-    (labels <= n.labels) & (id < n.functions) & (id < MOST)
-}
-
-// 9 where they are not enough, unless a number says that the function is refused already.
-fn with_entry(k: u8, ws: &[u32], n: Lengths) -> u8
-    ensures { λ r. ⌜ ((b : Buffers) → Sized n b → r ≡ pick (eqb k 0) (pick (entryOk (now (ws .entry)) b) 0 9) k) ⌝ }
-{
-    if k != 0 {
-        return k;
-    }
-    if enough(ws, n) {
-        return 0;
-    }
-    9
 }
 
 // Any words, any buffers, any used lengths. The places of the values are written to `places`; hints, noted registers and labels are work room.
@@ -164,9 +113,9 @@ pub fn compile(
         values: values.len(),
         labels: labels.len(),
     };
-    let unfit = early(ws, functions, n, used);
+    let unfit = first_checks::early(ws, functions, n, used);
     let p = placing::place_values(unfit, ws, places, hints, noted);
-    let entered = with_entry(p.number, ws, n);
+    let entered = first_checks::with_entry(p.number, ws, n);
     let l = lists::make_lists(
         entered,
         ws,
@@ -179,7 +128,6 @@ pub fn compile(
         values,
         used,
     );
-    let listed = l.used;
     let f = assemble::put_function(
         l.number,
         ws,
@@ -193,24 +141,14 @@ pub fn compile(
         builtins,
         p,
         used,
-        listed,
+        l.used,
     );
-    let grown = f.used;
-    used::finish_targets(f.number, targets, labels, used.targets, grown.targets);
+    used::finish_targets(f.number, targets, labels, used.targets, f.used.targets);
+    used::wipe_lists(f, ops, spans, globals, builtins, used);
+    used::wipe_tables(f, switches, targets, lookups, values, used);
+    used::wipe32(f.number, places, 0);
     base::zero32(hints, 0);
     base::zero64(noted, 0);
     base::zero64(labels, 0);
-    if f.number == 0 {
-        return Compiled {
-            answer: Answer::Done,
-            used: grown,
-        };
-    }
-    used::wipe_lists(ops, spans, globals, builtins, used);
-    used::wipe_tables(switches, targets, lookups, values, used);
-    base::zero32(places, 0);
-    Compiled {
-        answer: answer_of(f.number),
-        used: used,
-    }
+    answer_for(f, used)
 }

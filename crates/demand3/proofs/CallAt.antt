@@ -17,7 +17,7 @@ use Rattle.instrs.specs.Instrs.{Env, callOps, sysOps, instrOps}
 use Rattle.calls_kept.specs.CallsKept.{Calls, callsFunction, callsBuiltin, opsBefore, opsAfter}
 use Rattle.layout.specs.Layout.{Stands, InstrAt}
 use Rattle.lists.specs.declared.Used.{Used}
-use Rattle.compile.specs.Program.{Buffers}
+use Rattle.first_checks.specs.Buffers.{Buffers}
 use Rattle.compile.specs.Compile.{envOf}
 use Rattle.demand3.specs.Demand3.{calledOp, CallAt}
 

@@ -41,8 +41,9 @@ use Rattle.layout.specs.Layout.{blockPc}
 use Rattle.lists.specs.declared.Used.{Used}
 use Rattle.lists.specs.Lists.{listsFit}
 use Rattle.assemble.specs.Assemble.{functionOut}
-use Rattle.compile.specs.Program.{Buffers, lent}
-use Rattle.compile.specs.Compile.{usedOk, newFunctions, newLists, startOf, finalOut, entryOk, roomOk, refusal, doneOf, compiled}
+use Rattle.first_checks.specs.Buffers.{Buffers, lent}
+use Rattle.first_checks.specs.Checks.{usedOk, entryOk}
+use Rattle.compile.specs.Compile.{newFunctions, newLists, startOf, finalOut, roomOk, refusal, doneOf, compiled}
 
 -- the buffers, all zero, and nothing used
 abbrev zeros : ℕ → List ℕ

@@ -15,7 +15,8 @@ use Rattle.layout.proofs.Heads.{after-thirds}
 use Rattle.layout.proofs.Lookups.{after-fifths}
 use Rattle.lists.specs.declared.Used.{Used}
 use Rattle.assemble.proofs.Whole.{room-few}
-use Rattle.compile.specs.Program.{Buffers, Outcome}
+use Rattle.first_checks.specs.Buffers.{Buffers}
+use Rattle.compile.specs.Program.{Outcome}
 use Rattle.used.specs.Used.{labelsAt}
 use Rattle.compile.specs.Compile.{placesOf, newLists, newFunctions, newTargets, finalOut, doneOf, compiled}
 use Rattle.demand3.specs.Demand3.{opsOf, slotsOf, headsOf, lookupsOf, builtinsOf, placesLeft}

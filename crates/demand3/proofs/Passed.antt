@@ -21,9 +21,10 @@ use Rattle.placing.specs.Placing.{roomOk as placesFit}
 use Rattle.lists.specs.declared.Used.{Used}
 use Rattle.lists.specs.Lists.{Lists, room, listsFit}
 use Rattle.assemble.specs.Assemble.{opRoom}
-use Rattle.compile.specs.Program.{Buffers, listsOf}
+use Rattle.first_checks.specs.Buffers.{Buffers, listsOf}
 use Rattle.used.specs.Used.{within, slotsWithin, labelsFor}
-use Rattle.compile.specs.Compile.{usedOk, newLists, finalOut, entryOk, roomOk, refusal, doneOf, refusedOf, compiled}
+use Rattle.first_checks.specs.Checks.{usedOk, entryOk}
+use Rattle.compile.specs.Compile.{newLists, finalOut, roomOk, refusal, doneOf, refusedOf, compiled}
 
 -- a test with a refusal passes, and so does the rest
 chosen : (t : Bool) (x k : ℕ) → 0 < k → pick t x k ≡ 0 → (t ≡ true) × (x ≡ 0)

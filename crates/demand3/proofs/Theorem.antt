@@ -33,7 +33,7 @@ use Rattle.layout.proofs.Theorem.{layout, entry}
 use Rattle.lists.specs.declared.Used.{Used}
 use Rattle.assemble.specs.Assemble.{functionOut}
 use Rattle.assemble.proofs.Whole.{room-few}
-use Rattle.compile.specs.Program.{Buffers}
+use Rattle.first_checks.specs.Buffers.{Buffers}
 use Rattle.compile.specs.Compile.{newLists, newTargets, envOf, startOf, finalOut, compiled}
 use Rattle.demand3.specs.Demand3.{opsOf, slotsOf, headsOf, lookupsOf, placesLeft, savedBy, CallAt, Right, Words, Demand3}
 use Rattle.demand3.proofs.Passed.{Passed, passed}

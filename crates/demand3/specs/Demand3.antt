@@ -25,7 +25,7 @@ use Rattle.calls_proof.specs.CallsRight.{shuffleWords}
 use Rattle.calls_kept.specs.CallsKept.{Calls, opsBefore, opsAfter, CallKept}
 use Rattle.layout.specs.Layout.{Stands, BlockAt, EntryAt}
 use Rattle.lists.specs.declared.Used.{Used}
-use Rattle.compile.specs.Program.{Buffers}
+use Rattle.first_checks.specs.Buffers.{Buffers}
 use Rattle.compile.specs.Compile.{placesOf, newLists, newFunctions, envOf, finalOut, compiled}
 
 -- what compiling leaves: the ops up to the new used length, the slots and the heads of the switch tables, the heads of the lookup tables, the

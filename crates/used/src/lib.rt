@@ -1,12 +1,12 @@
 // Used lengths and labels: which pass a buffer, what is zeroed behind a refused function, which slots become pcs.
+use lists::Tried;
 use lists::Used;
 ghost use mathlib.Core.Path.{_≡_};
 ghost use Prim.Native.Nat.{ℕ, _*_, _-_, _≤_, _<_};
 ghost use mathlib.Core.List.{_++_};
 ghost use lib.ListN.{length, getD, take, drop};
-ghost use Rattle.base.specs.Buffers.{zeroFrom};
 ghost use Rattle.lists.specs.Lists.{globalWords, switchWords, lookupWords, valueWords};
-ghost use Rattle.used.specs.Used.{within, slotsWithin, labelsFor, labelsAt};
+ghost use Rattle.used.specs.Used.{within, slotsWithin, labelsFor, labelsAt, wiped};
 
 // The most of a kind in a program.
 const MOST: usize = 65534;
@@ -68,44 +68,70 @@ pub fn labels_for(ws: &[u32]) -> usize
     2 * blocks + 32767
 }
 
-// Zero from so many records of `words` words each on; nothing changes where they pass the buffer.
-fn wipe64(buf: &mut [u64], words: usize, used: usize)
-    requires { ⌜ 1 ≤ words ⌝ }
-    ensures { λ _. ⌜ now (buf .exit) ≡ zeroFrom (now (buf .entry)) (words * used) ⌝ }
+// The used lengths with another number of ops.
+pub fn with_ops(u: Used, ops: usize) -> Used
+    ensures { λ r. ⌜ r ≡ record { ops = ops; globals = u .globals; builtins = u .builtins; switches = u .switches; targets = u .targets; lookups = u .lookups; values = u .values } ⌝ }
 {
-    if used <= buf.len() / words {
+    Used {
+        ops: ops,
+        globals: u.globals,
+        builtins: u.builtins,
+        switches: u.switches,
+        targets: u.targets,
+        lookups: u.lookups,
+        values: u.values,
+    }
+}
+
+// A refused function's words behind so many used ones are zeroed,
+pub fn wipe32(k: u8, buf: &mut [u32], used: usize)
+    ensures { λ _. ⌜ now (buf .exit) ≡ wiped k (now (buf .entry)) used ⌝ }
+{
+    if k != 0 {
+        base::zero32(buf, used);
+    }
+}
+
+// and behind so many records of `words` words each; nothing changes where they pass the buffer.
+fn wipe64(k: u8, buf: &mut [u64], words: usize, used: usize)
+    requires { ⌜ 1 ≤ words ⌝ }
+    ensures { λ _. ⌜ now (buf .exit) ≡ wiped k (now (buf .entry)) (words * used) ⌝ }
+{
+    if (k != 0) & (used <= buf.len() / words) {
         base::zero64(buf, words * used);
     }
 }
 
 // A refused compile keeps output before the old used lengths and zeroes the rest: the lists of single words and of pairs,
 pub fn wipe_lists(
+    f: Tried,
     ops: &mut [u64],
     spans: &mut [u32],
     globals: &mut [u64],
     builtins: &mut [u32],
     u: Used,
 )
-    ensures { λ _. ⌜ (now (ops .exit) ≡ zeroFrom (now (ops .entry)) (u .ops)) × (now (spans .exit) ≡ zeroFrom (now (spans .entry)) (u .ops)) × (now (globals .exit) ≡ zeroFrom (now (globals .entry)) (globalWords u)) × (now (builtins .exit) ≡ zeroFrom (now (builtins .entry)) (u .builtins)) ⌝ }
+    ensures { λ _. ⌜ (now (ops .exit) ≡ wiped (f .number) (now (ops .entry)) (u .ops)) × (now (spans .exit) ≡ wiped (f .number) (now (spans .entry)) (u .ops)) × (now (globals .exit) ≡ wiped (f .number) (now (globals .entry)) (globalWords u)) × (now (builtins .exit) ≡ wiped (f .number) (now (builtins .entry)) (u .builtins)) ⌝ }
 {
-    base::zero64(ops, u.ops);
-    base::zero32(spans, u.ops);
-    wipe64(globals, 2, u.globals);
-    base::zero32(builtins, u.builtins);
+    wipe64(f.number, ops, 1, u.ops);
+    wipe32(f.number, spans, u.ops);
+    wipe64(f.number, globals, 2, u.globals);
+    wipe32(f.number, builtins, u.builtins);
 }
 
 // and the tables.
 pub fn wipe_tables(
+    f: Tried,
     switches: &mut [u64],
     targets: &mut [u32],
     lookups: &mut [u64],
     values: &mut [u64],
     u: Used,
 )
-    ensures { λ _. ⌜ (now (switches .exit) ≡ zeroFrom (now (switches .entry)) (switchWords u)) × (now (targets .exit) ≡ zeroFrom (now (targets .entry)) (u .targets)) × (now (lookups .exit) ≡ zeroFrom (now (lookups .entry)) (lookupWords u)) × (now (values .exit) ≡ zeroFrom (now (values .entry)) (valueWords u)) ⌝ }
+    ensures { λ _. ⌜ (now (switches .exit) ≡ wiped (f .number) (now (switches .entry)) (switchWords u)) × (now (targets .exit) ≡ wiped (f .number) (now (targets .entry)) (u .targets)) × (now (lookups .exit) ≡ wiped (f .number) (now (lookups .entry)) (lookupWords u)) × (now (values .exit) ≡ wiped (f .number) (now (values .entry)) (valueWords u)) ⌝ }
 {
-    wipe64(switches, 3, u.switches);
-    base::zero32(targets, u.targets);
-    wipe64(lookups, 5, u.lookups);
-    wipe64(values, 2, u.values);
+    wipe64(f.number, switches, 3, u.switches);
+    wipe32(f.number, targets, u.targets);
+    wipe64(f.number, lookups, 5, u.lookups);
+    wipe64(f.number, values, 2, u.values);
 }

@@ -14,11 +14,8 @@ intern-strings-requires c κs = search needs
 strings-numbers-requires : tie.Need-strings-numbers-requires
 strings-numbers-requires c κs = search needs
 
-set64-requires : tie.Need-set64-requires
-set64-requires c κs = search needs
-
-set64-requires-2 : tie.Need-set64-requires-2
-set64-requires-2 c κs = search needs
+store-both-requires : tie.Need-store-both-requires
+store-both-requires c κs = search needs
 
 same-length : tie.Need-same-length
 same-length c = search needs
@@ -28,11 +25,11 @@ same-length-2 c = search needs
 
 returns : tie.Need-returns
 returns c =
-    let a = c .before .before .before .before .before .before .before .before .before .before .before .before .before .before .before .before .before .before .before .args in
-    let i = c .before .before .before .before .before .before .before .before .before .before .before .intern-strings in
-    let s = c .before .before .before .before .before .before .before .before .strings-numbers .ensures in
-    interned-then registers (a .words .now) (a .ends .now) (a .globals .now) (a .answer .now) (i .result) _ (c .before .before .before .before .before .before .before .before .before .before .before .before .before .get64 .ensures) _ (i .ensures)
-    _ (s .0) _ (s .1) _ (s .2) _ _ (c .before .before .before .before .before .before .set64 .ensures) (c .before .before .set642 .ensures)
+    let a = c .before .before .before .before .before .before .before .before .before .before .before .before .before .before .before .args in
+    let i = c .before .before .before .before .before .before .before .intern-strings in
+    let s = c .before .before .before .before .strings-numbers .ensures in
+    interned-then registers (a .words .now) (a .ends .now) (a .globals .now) (a .answer .now) (i .result) _ (c .before .before .before .before .before .before .before .before .before .get64 .ensures) _ (i .ensures)
+    _ (s .0) _ (s .1) _ (s .2) _ (c .before .before .store-both .ensures)
 
 pub agnulfrosc-strings-spec : {M : Type 1} → statement M
 agnulfrosc-strings-spec =
@@ -41,8 +38,7 @@ agnulfrosc-strings-spec =
     get64-requires
     intern-strings-requires
     strings-numbers-requires
-    set64-requires
-    set64-requires-2
+    store-both-requires
     same-length
     same-length-2
     returns)

@@ -1,8 +1,8 @@
 -- One law for each side of the test.
-use Rattle.agnulfrosc.proofs.Words.{new-stored, new-none}
+use Rattle.answers.proofs.Words.{new-stored, new-none}
 use borrow.Author.Needs.{needs}
-use Rattle.agnulfrosc.proofs.store_new.Statement.{statement}
-use Rattle.agnulfrosc.proofs.store_new.Tie as tie
+use Rattle.answers.proofs.store_new.Statement.{statement}
+use Rattle.answers.proofs.store_new.Tie as tie
 
 set64-requires : tie.Need-set64-requires
 set64-requires c κs = search needs

@@ -1,8 +1,8 @@
 -- Seven stores, each behind the one before.
-use Rattle.agnulfrosc.proofs.Words.{then}
+use Rattle.answers.proofs.Words.{then}
 use borrow.Author.Needs.{needs}
-use Rattle.agnulfrosc.proofs.store_used.Statement.{statement}
-use Rattle.agnulfrosc.proofs.store_used.Tie as tie
+use Rattle.answers.proofs.store_used.Statement.{statement}
+use Rattle.answers.proofs.store_used.Tie as tie
 
 set64-requires : tie.Need-set64-requires
 set64-requires c κs = search needs

@@ -2,8 +2,8 @@
 use mathlib.Core.Path.{sym, _∙_}
 use borrow.Author.Tests.{eq-eqb, ne-eqb}
 use borrow.Author.Needs.{needs}
-use Rattle.compile.proofs.with_entry.Statement.{statement}
-use Rattle.compile.proofs.with_entry.Tie as tie
+use Rattle.first_checks.proofs.with_entry.Statement.{statement}
+use Rattle.first_checks.proofs.with_entry.Tie as tie
 
 returns : tie.Need-returns
 returns c = λ b z. rw (ne-eqb _ 0 (c .if1 .taken))

@@ -1,8 +1,8 @@
 -- Eight tests, one for each used length.
-use Rattle.compile.proofs.Sizes.{used-is}
+use Rattle.first_checks.proofs.Sizes.{used-is}
 use borrow.Author.Needs.{needs}
-use Rattle.compile.proofs.used_ok.Statement.{statement}
-use Rattle.compile.proofs.used_ok.Tie as tie
+use Rattle.first_checks.proofs.used_ok.Statement.{statement}
+use Rattle.first_checks.proofs.used_ok.Tie as tie
 
 within-requires : tie.Need-within-requires
 within-requires c κs = search needs

@@ -2,10 +2,10 @@
 use mathlib.Core.Path.{sym, _∙_}
 use denote.Ref.{now}
 use Rattle.place.specs.Registers.{registers}
-use Rattle.compile.proofs.Sizes.{early-word, early-many, early-rest}
+use Rattle.first_checks.proofs.Sizes.{early-word, early-many, early-rest}
 use borrow.Author.Needs.{needs}
-use Rattle.compile.proofs.early.Statement.{statement}
-use Rattle.compile.proofs.early.Tie as tie
+use Rattle.first_checks.proofs.early.Statement.{statement}
+use Rattle.first_checks.proofs.early.Tie as tie
 
 judge-requires : tie.Need-judge-requires
 judge-requires c κs = search needs

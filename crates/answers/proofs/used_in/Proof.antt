@@ -1,8 +1,8 @@
 -- Seven words are read.
-use Rattle.agnulfrosc.proofs.Words.{used-read}
+use Rattle.answers.proofs.Words.{used-read}
 use borrow.Author.Needs.{needs}
-use Rattle.agnulfrosc.proofs.used_in.Statement.{statement}
-use Rattle.agnulfrosc.proofs.used_in.Tie as tie
+use Rattle.answers.proofs.used_in.Statement.{statement}
+use Rattle.answers.proofs.used_in.Tie as tie
 
 get64-requires : tie.Need-get64-requires
 get64-requires c κs = search needs

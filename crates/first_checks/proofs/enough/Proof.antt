@@ -1,14 +1,14 @@
 -- The three tests joined, with the lengths of the buffers.
 use Rattle.input.specs.Layout.{functionId}
 use Rattle.used.specs.Used.{labelsFor}
-use Rattle.compile.specs.Compile.{entryOk}
+use Rattle.first_checks.specs.Checks.{entryOk}
 use denote.Ref.{now}
 use lib.Dec.{leb}
 use lib.ListN.{length}
-use Rattle.compile.proofs.Sizes.{under-both}
+use Rattle.first_checks.proofs.Sizes.{under-both}
 use borrow.Author.Needs.{needs}
-use Rattle.compile.proofs.enough.Statement.{statement}
-use Rattle.compile.proofs.enough.Tie as tie
+use Rattle.first_checks.proofs.enough.Statement.{statement}
+use Rattle.first_checks.proofs.enough.Tie as tie
 
 labels-for-requires : tie.Need-labels-for-requires
 labels-for-requires c κs = search needs
