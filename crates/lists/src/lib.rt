@@ -115,7 +115,7 @@ fn lookup_tables(ws: &[u32], lookups: &mut [u64], values: &mut [u64], u: Used) -
     requires { ⌜ LookupReady (now ws) u (now lookups) (now values) ⌝ }
     ensures { λ r. ⌜ LookupParts (now (ws .entry)) u (now (lookups .entry)) (now (values .entry)) (now (lookups .exit)) (now (values .exit)) r ⌝ }
 {
-    let h = tables::put_lookup_heads(
+    let h = lookups::put_lookup_heads(
         ws,
         lookups,
         end_at(5, 5 * u.lookups, lookups.len()),
@@ -126,7 +126,7 @@ fn lookup_tables(ws: &[u32], lookups: &mut [u64], values: &mut [u64], u: Used) -
         room: values.len(),
         full: false,
     };
-    let v = tables::put_lookup_values(ws, values, e, u.values);
+    let v = lookups::put_lookup_values(ws, values, e, u.values);
     Pair {
         first: h.at,
         second: v.at,

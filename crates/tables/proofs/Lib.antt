@@ -1,4 +1,3 @@
 pub mod Ranges
 pub mod Switches
-pub mod Lookups
 pub mod Examples

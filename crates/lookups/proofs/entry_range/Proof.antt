@@ -1,7 +1,7 @@
 -- The keys of the instruction's entries.
 use borrow.Author.Needs.{needs}
-use Rattle.tables.proofs.entry_range.Statement.{statement}
-use Rattle.tables.proofs.entry_range.Tie as tie
+use Rattle.lookups.proofs.entry_range.Statement.{statement}
+use Rattle.lookups.proofs.entry_range.Tie as tie
 
 instr-field-requires : tie.Need-instr-field-requires
 instr-field-requires c κs = search needs

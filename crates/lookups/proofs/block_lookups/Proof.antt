@@ -5,9 +5,9 @@ use native.Mathlib.Omega.{arith}
 use borrow.Author.Needs.{needs}
 use borrow.Author.Tests.{eq-eqb, ne-eqb}
 use Rattle.ready.specs.Ready.{Live}
-use Rattle.tables.proofs.Lookups.{dead-next, dead-none, live-next, live-some, entries-ready}
-use Rattle.tables.proofs.block_lookups.Statement.{statement}
-use Rattle.tables.proofs.block_lookups.Tie as tie
+use Rattle.lookups.proofs.Lookups.{dead-next, dead-none, live-next, live-some, entries-ready}
+use Rattle.lookups.proofs.block_lookups.Statement.{statement}
+use Rattle.lookups.proofs.block_lookups.Tie as tie
 
 block-field-requires : tie.Need-block-field-requires
 block-field-requires c κs = search needs

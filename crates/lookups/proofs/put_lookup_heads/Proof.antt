@@ -1,8 +1,8 @@
--- The pass for slots.
+-- The pass for heads.
 use borrow.Author.Needs.{needs}
-use Rattle.tables.specs.Tables.{lookupValuesAfter}
-use Rattle.tables.proofs.put_lookup_values.Statement.{statement}
-use Rattle.tables.proofs.put_lookup_values.Tie as tie
+use Rattle.tables.specs.Tables.{lookupHeadsAfter}
+use Rattle.lookups.proofs.put_lookup_heads.Statement.{statement}
+use Rattle.lookups.proofs.put_lookup_heads.Tie as tie
 
 lookup-pass-requires : tie.Need-lookup-pass-requires
 lookup-pass-requires c κs = search needs
@@ -11,11 +11,11 @@ same-length : tie.Need-same-length
 same-length c = search needs
 
 returns : tie.Need-returns
-unfolding lookupValuesAfter
+unfolding lookupHeadsAfter
 returns c = c .before .before .lookup-pass .ensures
 
-pub put-lookup-values-spec : {M : Type 1} → statement M
-put-lookup-values-spec =
+pub put-lookup-heads-spec : {M : Type 1} → statement M
+put-lookup-heads-spec =
     tie.close
     (tie.spec
     lookup-pass-requires

@@ -4,10 +4,10 @@ use mathlib.Core.List.{_++_}
 use borrow.Author.Needs.{needs}
 use lib.ListN.{length}
 use Rattle.grow.proofs.Growing.{Left, left-as}
 use Rattle.tables.specs.Tables.{filled}
-use Rattle.tables.proofs.Lookups.{filled-turn, filled-end}
-use Rattle.tables.proofs.put_filled.Statement.{statement}
-use Rattle.tables.proofs.put_filled.Tie as tie
+use Rattle.lookups.proofs.Lookups.{filled-turn, filled-end}
+use Rattle.lookups.proofs.put_filled.Statement.{statement}
+use Rattle.lookups.proofs.put_filled.Tie as tie
 
 abbrev Inv-loop : tie.InvT-loop
 Inv-loop values₀ kind payload n f₀ left₀ values f left =

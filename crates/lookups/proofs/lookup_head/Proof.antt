@@ -2,9 +2,9 @@
 use mathlib.Core.List.{[], _∷_}
 use Prim.Native.Nat.{_+_, _%_, _^_}
 use borrow.Author.Needs.{needs}
-use Rattle.tables.proofs.Lookups.{two-more}
-use Rattle.tables.proofs.lookup_head.Statement.{statement}
-use Rattle.tables.proofs.lookup_head.Tie as tie
+use Rattle.lookups.proofs.Lookups.{two-more}
+use Rattle.lookups.proofs.lookup_head.Statement.{statement}
+use Rattle.lookups.proofs.lookup_head.Tie as tie
 
 default-constant-requires : tie.Need-default-constant-requires
 default-constant-requires c κs = search needs

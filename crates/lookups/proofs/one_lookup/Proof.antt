@@ -4,9 +4,9 @@ use mathlib.Core.Path.{_≡_, sym, _∙_}
 use native.Mathlib.Omega.{arith}
 use borrow.Author.Needs.{needs}
 use Rattle.input.specs.Records.{instrKind, lookup}
-use Rattle.tables.proofs.Lookups.{lookup-next, lookup-headed, lookup-slotted, other-next, other-none}
-use Rattle.tables.proofs.one_lookup.Statement.{statement}
-use Rattle.tables.proofs.one_lookup.Tie as tie
+use Rattle.lookups.proofs.Lookups.{lookup-next, lookup-headed, lookup-slotted, other-next, other-none}
+use Rattle.lookups.proofs.one_lookup.Statement.{statement}
+use Rattle.lookups.proofs.one_lookup.Tie as tie
 
 instr-field-requires : tie.Need-instr-field-requires
 instr-field-requires c κs = search needs

@@ -1,8 +1,8 @@
 -- One store after the other.
 use borrow.Author.Needs.{needs}
 use Rattle.grow.proofs.Growing.{then}
-use Rattle.tables.proofs.store_entry.Statement.{statement}
-use Rattle.tables.proofs.store_entry.Tie as tie
+use Rattle.lookups.proofs.store_entry.Statement.{statement}
+use Rattle.lookups.proofs.store_entry.Tie as tie
 
 constant-at-requires : tie.Need-constant-at-requires
 constant-at-requires c κs = search needs

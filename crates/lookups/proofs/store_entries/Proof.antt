@@ -6,10 +6,10 @@ use native.Mathlib.Omega.{arith}
 use borrow.Author.Needs.{needs}
 use lib.ListN.{length}
 use Rattle.fit.specs.Keys.{keysAt}
 use Rattle.tables.proofs.Ranges.{key-low, key-slot}
-use Rattle.tables.proofs.Lookups.{EntriesLeft, entries-start, entries-turn, entries-end}
-use Rattle.tables.proofs.store_entries.Statement.{statement}
-use Rattle.tables.proofs.store_entries.Tie as tie
+use Rattle.lookups.proofs.Lookups.{EntriesLeft, entries-start, entries-turn, entries-end}
+use Rattle.lookups.proofs.store_entries.Statement.{statement}
+use Rattle.lookups.proofs.store_entries.Tie as tie
 
 abbrev Inv-loop : tie.InvT-loop
 Inv-loop ws values₀ e low start c n j₀ values j =

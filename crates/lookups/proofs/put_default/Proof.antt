@@ -1,7 +1,7 @@
 -- The constant behind the entries.
 use borrow.Author.Needs.{needs}
-use Rattle.tables.proofs.put_default.Statement.{statement}
-use Rattle.tables.proofs.put_default.Tie as tie
+use Rattle.lookups.proofs.put_default.Statement.{statement}
+use Rattle.lookups.proofs.put_default.Tie as tie
 
 default-constant-requires : tie.Need-default-constant-requires
 default-constant-requires c κs = search needs

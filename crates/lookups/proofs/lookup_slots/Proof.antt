@@ -1,9 +1,9 @@
 -- The default's constant everywhere, then each entry's.
 use denote.Ref.{now}
 use borrow.Author.Needs.{needs}
-use Rattle.tables.proofs.Lookups.{lookup-filled}
-use Rattle.tables.proofs.lookup_slots.Statement.{statement}
-use Rattle.tables.proofs.lookup_slots.Tie as tie
+use Rattle.lookups.proofs.Lookups.{lookup-filled}
+use Rattle.lookups.proofs.lookup_slots.Statement.{statement}
+use Rattle.lookups.proofs.lookup_slots.Tie as tie
 
 put-default-requires : tie.Need-put-default-requires
 put-default-requires c κs = search needs

@@ -4,9 +4,9 @@ use mathlib.Core.Path.{_≡_, refl, _∙_}
 use Prim.Native.Nat.{_+_, _-_, _≤_}
 use native.Mathlib.Omega.{arith}
 use lib.ListN.{length}
-use Rattle.tables.proofs.Lookups.{InstrsLeft, SlotsLeft, instrs-start, slots-start, instrs-turn, instrs-end, slots-turn, slots-end}
-use Rattle.tables.proofs.some_lookups.Statement.{statement}
-use Rattle.tables.proofs.some_lookups.Tie as tie
+use Rattle.lookups.proofs.Lookups.{InstrsLeft, SlotsLeft, instrs-start, slots-start, instrs-turn, instrs-end, slots-turn, slots-end}
+use Rattle.lookups.proofs.some_lookups.Statement.{statement}
+use Rattle.lookups.proofs.some_lookups.Tie as tie
 
 abbrev Inv-loop : tie.InvT-loop
 Inv-loop ws list₀ heads first n u₀ j₀ list u j =

@@ -5,9 +5,9 @@ use Prim.Native.Nat.{_+_, _*_, _-_, _≤_}
 use native.Mathlib.Omega.{arith}
 use borrow.Author.Needs.{needs}
 use lib.ListN.{length}
-use Rattle.tables.proofs.Lookups.{BlocksLeft, blocks-start, blocks-turn, blocks-end}
-use Rattle.tables.proofs.lookup_pass.Statement.{statement}
-use Rattle.tables.proofs.lookup_pass.Tie as tie
+use Rattle.lookups.proofs.Lookups.{BlocksLeft, blocks-start, blocks-turn, blocks-end}
+use Rattle.lookups.proofs.lookup_pass.Statement.{statement}
+use Rattle.lookups.proofs.lookup_pass.Tie as tie
 
 abbrev Inv-loop : tie.InvT-loop
 Inv-loop ws list₀ used heads end t₀ b₀ list t b =
