@@ -47,7 +47,7 @@ fn tally_after(ws: &[u32], map: &[u32], b: u32, t: Tally) -> Tally
 {
     let first = input::block_field(ws, b, 4);
     let n = input::block_field(ws, b, 5);
-    let lookups = t.lookups + instrs::lookups_in(ws, first, n);
+    let lookups = t.lookups + instr_runs::lookups_in(ws, first, n);
     if input::block_field(ws, b, 6) == SWITCH {
         let pads = edges::pad_count(
             ws,
@@ -96,7 +96,7 @@ fn put_block(
     base::bind_label(labels, b as usize, p);
     let first = input::block_field(ws, b, 4);
     let n = input::block_field(ws, b, 5);
-    let q = instrs::put_instrs(
+    let q = instr_runs::put_instrs(
         ops,
         spans,
         p,

@@ -1,24 +1,22 @@
--- LoadConst, Call and Sys by what the code found, the chain of an instruction's kinds, and a run of instructions turn by turn.
+-- LoadConst, Call and Sys by what the code found.
 use mathlib.Core.Path.{_≡_}
 use mathlib.Core.Bool.{false}
-use Prim.Native.Nat.{ℕ, suc, _+_, _-_, _≤_, _<_}
+use Prim.Native.Nat.{ℕ, suc, _-_, _≤_}
 use mathlib.Core.List.{List, [], _∷_}
 use native.Mathlib.Omega.{arith}
 use lib.Dec.{eqb}
 use lib.ListN.{length, getD, take, length-take}
-use Rattle.base.specs.Choice.{pick}
 use Rattle.base.specs.declared.Pen.{Pen}
-use Rattle.base.specs.Emission.{Out, atSpan}
+use Rattle.base.specs.Emission.{Out}
 use Rattle.base.specs.Lent.{Lowers}
 use Rattle.base.proofs.Numbers.{pick-both}
 use Rattle.base.proofs.Pens.{renamed}
 use Rattle.input.specs.Layout.{listAt}
-use Rattle.input.specs.Records.{instrKind, instrSpan, destination, operandsAt, operandCount, instrX, constantKind, payloadOf, loadConst, call, sys, lookup}
+use Rattle.input.specs.Records.{destination, operandsAt, operandCount, instrX, constantKind, payloadOf}
 use Rattle.lower.specs.Instructions.{isGlobal, constOps, lowerConst}
 use Rattle.calls.specs.Calls.{lowerCall, lowerSys}
 use Rattle.interning.specs.Interning.{globalOf, builtinOf}
-use Rattle.instrs.specs.Instrs.{Env, destPlace, loadConstOps, callOps, sysOps, computeOps, instrOps, instrsOps}
-use Rattle.instrs.proofs.Chosen.{Others, none-of}
+use Rattle.instrs.specs.Instrs.{destPlace, loadConstOps, callOps, sysOps}
 
 -- a constant that LoadG does not load needs no number
 const-any : (n d kind payload g g′ : ℕ) (q : Out) → isGlobal kind payload ≡ false → lowerConst n d kind payload g q ≡ lowerConst n d kind payload g′ q
@@ -59,29 +57,3 @@ module _ (n : ℕ) (ws places noted : List ℕ) (i : ℕ) {at count mask d : ℕ
       → Lowers (lowerSys n places mask (listAt ws at count) number d) o b l p o′ b′ l′ p′ → Lowers (sysOps n ws places noted builtins i) o b l p o′ b′ l′ p′
   unfolding sysOps
   sys-as builtins j k s = rw (← e, ← f, ← g, ← h, ← j, ← k) s
-
-pub instr-compute : (n : ℕ) (env : Env) (table i kind : ℕ) {o b l o′ b′ l′ : List ℕ} {p p′ : Pen} → kind ≡ instrKind (env .ws) i
-    → Others kind loadConst call sys lookup → Lowers (computeOps n (env .ws) (env .places) i) o b l p o′ b′ l′ p′
-    → Lowers (instrOps n env table i) o b l p o′ b′ l′ p′
-unfolding instrOps
-instr-compute n env table i kind e h s = let f = none-of kind (instrKind (env .ws) i) loadConst call sys lookup e h in rw (f .0, f .1, f .2, f .3) s
-
--- instruction i + j of the k from i on
-module _ (n : ℕ) (env : Env) (t i k : ℕ) where
-  pub instrs-first : (q : Out) → instrsOps n env t (i + 0) (k - 0) q ≡ instrsOps n env t i k q
-  instrs-first q =
-      let a : i + 0 ≡ i = omega arith in
-      let c : k - 0 ≡ k = omega arith in
-      rw (a, c)
-
-  pub instrs-on : (j : ℕ) {x s : ℕ} → j < k → s ≡ instrSpan (env .ws) (i + j) → x ≡ pick (eqb (instrKind (env .ws) (i + j)) lookup) 1 0 → (q : Out)
-      → instrsOps n env t (i + j) (k - j) q ≡ instrsOps n env (t + x) (i + (j + 1)) (k - (j + 1)) (instrOps n env t (i + j) (atSpan s q))
-  unfolding instrsOps
-  instrs-on j h e f q =
-      let a : k - j ≡ suc (k - (j + 1)) = omega arith in
-      let c : i + (j + 1) ≡ i + j + 1 = omega arith in
-      rw (a, c, e, f)
-
-  pub instrs-none : (j : ℕ) → k ≤ j → (q : Out) → instrsOps n env t (i + j) (k - j) q ≡ q
-  unfolding instrsOps
-  instrs-none j h q = let a : k - j ≡ 0 = omega arith in rw a

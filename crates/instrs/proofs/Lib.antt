@@ -1,4 +1,2 @@
-pub mod Chosen
 pub mod Places
-pub mod Lookups
 pub mod Instrs

@@ -5,10 +5,10 @@ use borrow.Author.Needs.{needs}
 use Rattle.place.specs.Registers.{registers}
 use Rattle.input.specs.Forms.{instrForms}
 use Rattle.lower.specs.Instructions.{lowerAlloc, lowerStore, lowerLoad, lowerAddrOf}
 use Rattle.instrs.specs.Instrs.{memoryOps}
-use Rattle.instrs.proofs.Chosen.{of-3, of-4, memory-none, x-most, z-most}
-use Rattle.instrs.proofs.put_memory.Statement.{statement}
-use Rattle.instrs.proofs.put_memory.Tie as tie
+use Rattle.instr_runs.proofs.Chosen.{of-3, of-4, memory-none, x-most, z-most}
+use Rattle.instr_runs.proofs.put_memory.Statement.{statement}
+use Rattle.instr_runs.proofs.put_memory.Tie as tie
 
 instr-field-requires : tie.Need-instr-field-requires
 instr-field-requires c κs = search needs

@@ -8,11 +8,11 @@ use borrow.Author.Needs.{needs}
 use lib.ListN.{length, take}
 use Rattle.base.proofs.Pens.{then, Left, left-as, left-turn, left-end}
 use Rattle.place.specs.Registers.{registers}
 use Rattle.instrs.specs.Instrs.{seen, instrsOps}
-use Rattle.instrs.proofs.Lookups.{one-at-most}
-use Rattle.instrs.proofs.Instrs.{instrs-first, instrs-on, instrs-none}
-use Rattle.instrs.proofs.put_instrs.Statement.{statement}
-use Rattle.instrs.proofs.put_instrs.Tie as tie
+use Rattle.instr_runs.proofs.Lookups.{one-at-most}
+use Rattle.instr_runs.proofs.Runs.{instrs-first, instrs-on, instrs-none}
+use Rattle.instr_runs.proofs.put_instrs.Statement.{statement}
+use Rattle.instr_runs.proofs.put_instrs.Tie as tie
 
 abbrev Inv-loop : tie.InvT-loop
 Inv-loop ops₀ spans₀ ws map noted functions globals global-count builtins builtin-count table first n q₀ t₀ j₀ ops spans q t j =

@@ -3,10 +3,10 @@ use mathlib.Core.Path.{_≡_}
 use Prim.Native.Nat.{_+_, _-_, _≤_}
 use native.Mathlib.Omega.{arith}
 use borrow.Author.Needs.{needs}
 use Rattle.instrs.specs.Instrs.{lookupsIn}
-use Rattle.instrs.proofs.Lookups.{one-at-most, lookups-first, lookups-on, lookups-none}
-use Rattle.instrs.proofs.lookups_in.Statement.{statement}
-use Rattle.instrs.proofs.lookups_in.Tie as tie
+use Rattle.instr_runs.proofs.Lookups.{one-at-most, lookups-first, lookups-on, lookups-none}
+use Rattle.instr_runs.proofs.lookups_in.Statement.{statement}
+use Rattle.instr_runs.proofs.lookups_in.Tie as tie
 
 abbrev Inv-loop : tie.InvT-loop
 Inv-loop ws i k n₀ j₀ n j = (j ≤ k) × (n ≤ j) × (n + lookupsIn ws (i + j) (k - j) ≡ lookupsIn ws i k)

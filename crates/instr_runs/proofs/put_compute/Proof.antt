@@ -5,10 +5,10 @@ use borrow.Author.Needs.{needs}
 use Rattle.place.specs.Registers.{registers}
 use Rattle.input.specs.Forms.{instrForms}
 use Rattle.lower.specs.Instructions.{lowerBin, lowerBinImm, lowerCast, lowerAssert}
 use Rattle.instrs.specs.Instrs.{computeOps}
-use Rattle.instrs.proofs.Chosen.{of-2, of-4, compute-memory, x-most}
-use Rattle.instrs.proofs.put_compute.Statement.{statement}
-use Rattle.instrs.proofs.put_compute.Tie as tie
+use Rattle.instr_runs.proofs.Chosen.{of-2, of-4, compute-memory, x-most}
+use Rattle.instr_runs.proofs.put_compute.Statement.{statement}
+use Rattle.instr_runs.proofs.put_compute.Tie as tie
 
 instr-field-requires : tie.Need-instr-field-requires
 instr-field-requires c κs = search needs

@@ -1,8 +1,8 @@
 -- The place of a value that the pool lists.
 use borrow.Author.Needs.{needs}
 use Rattle.instrs.proofs.Places.{place-listed}
-use Rattle.instrs.proofs.operand_place.Statement.{statement}
-use Rattle.instrs.proofs.operand_place.Tie as tie
+use Rattle.instr_runs.proofs.operand_place.Statement.{statement}
+use Rattle.instr_runs.proofs.operand_place.Tie as tie
 
 instr-field-requires : tie.Need-instr-field-requires
 instr-field-requires c κs = search needs

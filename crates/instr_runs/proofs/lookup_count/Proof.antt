@@ -1,8 +1,8 @@
 -- One for a Lookup.
 use borrow.Author.Needs.{needs}
-use Rattle.instrs.proofs.Lookups.{one-lookup, no-lookup}
-use Rattle.instrs.proofs.lookup_count.Statement.{statement}
-use Rattle.instrs.proofs.lookup_count.Tie as tie
+use Rattle.instr_runs.proofs.Lookups.{one-lookup, no-lookup}
+use Rattle.instr_runs.proofs.lookup_count.Statement.{statement}
+use Rattle.instr_runs.proofs.lookup_count.Tie as tie
 
 instr-field-requires : tie.Need-instr-field-requires
 instr-field-requires c κs = search needs

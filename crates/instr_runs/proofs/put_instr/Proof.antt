@@ -3,11 +3,11 @@ use mathlib.Core.Path.{sym, _∙_}
 use borrow.Author.Needs.{needs}
 use Rattle.place.specs.Registers.{registers}
 use Rattle.lower.specs.Instructions.{lowerLookup}
 use Rattle.instrs.specs.Instrs.{loadConstOps, instrOps}
-use Rattle.instrs.proofs.Chosen.{of-1, of-2}
-use Rattle.instrs.proofs.Instrs.{instr-compute}
-use Rattle.instrs.proofs.put_instr.Statement.{statement}
-use Rattle.instrs.proofs.put_instr.Tie as tie
+use Rattle.instr_runs.proofs.Chosen.{of-1, of-2}
+use Rattle.instr_runs.proofs.Runs.{instr-compute}
+use Rattle.instr_runs.proofs.put_instr.Statement.{statement}
+use Rattle.instr_runs.proofs.put_instr.Tie as tie
 
 instr-field-requires : tie.Need-instr-field-requires
 instr-field-requires c κs = search needs

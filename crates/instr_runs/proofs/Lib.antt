@@ -1,0 +1,3 @@
+pub mod Chosen
+pub mod Lookups
+pub mod Runs
