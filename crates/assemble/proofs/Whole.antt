@@ -22,8 +22,9 @@ use Rattle.frame.proofs.Patching.{held-at}
 use Rattle.frame.proofs.Keeping.{Behind}
 use Rattle.frame.proofs.Joining.{Joined, Kept, resolved, joins-over, joins-none, joins-left, keeps-over, keeps-none, keeps-left, labels-fit, held-resolved, left-ready}
 use Rattle.lists.specs.declared.Used.{Used}
-use Rattle.assemble.specs.Assemble.{opRoom, ProgramReady}
-use Rattle.assemble.specs.Ops.{penAt, outAt, outOf, FrameReady, OpsPut}
+use Rattle.used.specs.Pens.{opRoom, penAt}
+use Rattle.assemble.specs.Assemble.{ProgramReady}
+use Rattle.assemble.specs.Ops.{outAt, outOf, FrameReady, OpsPut}
 
 -- the room passes neither buffer nor the most of a kind
 pub room-few : (ops spans : List ℕ) → (opRoom ops spans ≤ 65534) × (opRoom ops spans ≤ length ops) × (opRoom ops spans ≤ length spans)

@@ -14,13 +14,9 @@ use Rattle.instrs.specs.Instrs.{Env}
 use Rattle.body.specs.Body.{bodyOps}
 use Rattle.frame.specs.Frames.{framed}
 use Rattle.lists.specs.declared.Used.{Used}
-use Rattle.assemble.specs.Assemble.{lastOf, opRoom}
+use Rattle.used.specs.Pens.{lastOf, opRoom}
 
--- a pen behind the program's ops, and what it stands behind
-abbrev pub penAt : List ℕ → List ℕ → List ℕ → ℕ → Pen
-penAt ws ops spans used =
-    record { at = used; room = opRoom ops spans; full = false; last = lastOf ops used; span = functionSpan ws }
-
+-- what a pen behind so many used ops stands behind
 abbrev pub outAt : List ℕ → List ℕ → List ℕ → List ℕ → ℕ → Out
 outAt ws ops spans labels used =
     record { ops = take used ops; spans = take used spans; labels = labels; last = lastOf ops used; span = functionSpan ws }

@@ -25,8 +25,10 @@ use Rattle.placing.specs.Placing.{PlacesGiven, PlacesTried, roomOk as placesFit
 use Rattle.lists.specs.declared.Used.{Used}
 use Rattle.lists.specs.declared.Tried.{Tried}
 use Rattle.lists.specs.Lists.{Lists, listsAfter, listsFit, Started, ListsReady, Made, Listed}
-use Rattle.assemble.specs.Assemble.{functionsAfter, startOut, functionOut, opRoom, Lowerable, PlacesReady, ProgramReady, Put, Assembled}
+use Rattle.assemble.specs.Assemble.{startOut, functionOut, Lowerable, ProgramReady}
+use Rattle.own_entry.specs.OwnEntry.{functionsAfter, PlacesReady, Put, Assembled}
 use Rattle.used.specs.Used.{labelsFor, labelsAt}
+use Rattle.used.specs.Pens.{opRoom}
 use Rattle.first_checks.specs.Buffers.{Buffers, listsOf, lent}
 use Rattle.first_checks.specs.Checks.{usedOk, entryOk, Sized}
 use Rattle.compile.specs.Compile.{placesOf, newLists, finalOut, newTargets, roomOk, refusal, doneOf}

@@ -23,7 +23,7 @@ use Rattle.assign.specs.Walk.{slotsOk}
 use Rattle.lists.specs.declared.Used.{Used}
 use Rattle.lists.specs.declared.Tried.{Tried}
 use Rattle.lists.specs.Lists.{globalWords, switchWords, lookupWords, valueWords}
-use Rattle.used.specs.Used.{wiped}
+use Rattle.endings.specs.Endings.{wiped}
 use Rattle.first_checks.specs.Buffers.{Buffers, lent}
 use Rattle.first_checks.specs.Checks.{usedOk}
 use Rattle.compile.specs.declared.Compiled.{Compiled}

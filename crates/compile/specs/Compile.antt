@@ -16,9 +16,11 @@ use Rattle.instrs.specs.Instrs.{Env, seen}
 use Rattle.lists.specs.declared.Used.{Used}
 use Rattle.lists.specs.Lists.{Lists, globalWords, switchWords, lookupWords, valueWords, listsAfter, listsFit}
 use Rattle.used.specs.Used.{labelsAt}
+use Rattle.used.specs.Pens.{opRoom}
 use Rattle.first_checks.specs.Buffers.{Buffers, listsOf}
 use Rattle.first_checks.specs.Checks.{usedOk, entryOk}
-use Rattle.assemble.specs.Assemble.{functionsAfter, startOut, functionOut, opRoom}
+use Rattle.assemble.specs.Assemble.{startOut, functionOut}
+use Rattle.own_entry.specs.OwnEntry.{functionsAfter}
 use Rattle.compile.specs.Program.{Outcome}
 
 -- The places of the values, and the program behind its used lengths: the function's own entry in the table is the pc that it starts at, its

@@ -128,7 +128,7 @@ pub fn compile(
         values,
         used,
     );
-    let f = assemble::put_function(
+    let f = own_entry::put_function(
         l.number,
         ws,
         places,
@@ -143,10 +143,10 @@ pub fn compile(
         used,
         l.used,
     );
-    used::finish_targets(f.number, targets, labels, used.targets, f.used.targets);
-    used::wipe_lists(f, ops, spans, globals, builtins, used);
-    used::wipe_tables(f, switches, targets, lookups, values, used);
-    used::wipe32(f.number, places, 0);
+    endings::finish_targets(f.number, targets, labels, used.targets, f.used.targets);
+    endings::wipe_lists(f, ops, spans, globals, builtins, used);
+    endings::wipe_tables(f, switches, targets, lookups, values, used);
+    endings::wipe32(f.number, places, 0);
     base::zero32(hints, 0);
     base::zero64(noted, 0);
     base::zero64(labels, 0);

@@ -20,7 +20,7 @@ use Rattle.assign.specs.Walk.{slotsOk}
 use Rattle.placing.specs.Placing.{roomOk as placesFit}
 use Rattle.lists.specs.declared.Used.{Used}
 use Rattle.lists.specs.Lists.{Lists, room, listsFit}
-use Rattle.assemble.specs.Assemble.{opRoom}
+use Rattle.used.specs.Pens.{opRoom}
 use Rattle.first_checks.specs.Buffers.{Buffers, listsOf}
 use Rattle.used.specs.Used.{within, slotsWithin, labelsFor}
 use Rattle.first_checks.specs.Checks.{usedOk, entryOk}

@@ -2,11 +2,9 @@
 use Prim.Native.Nat.{ℕ, _+_, _*_, min}
 use mathlib.Core.Bool.{Bool}
 use mathlib.Core.List.{List, map}
-use lib.Dec.{leb, ltb, eqb}
+use lib.Dec.{leb, ltb}
 use lib.ListN.{getD}
-use Rattle.base.specs.Choice.{pick}
 use Rattle.base.specs.Limits.{mostOfAKind}
-use Rattle.base.specs.Buffers.{zeroFrom}
 use Rattle.input.specs.Layout.{blocks, edges}
 use Rattle.input.specs.Forms.{both}
 
@@ -26,7 +24,3 @@ labelsFor ws = 2 * blocks ws + min (blocks ws * edges ws) 32767
 -- slots that are labels become pcs
 abbrev pub labelsAt : List ℕ → List ℕ → List ℕ
 labelsAt labels l = map (λ t. getD labels t 0) l
-
--- behind a refusal, a number above 0, a list is zero from its used length on; else it stays
-abbrev pub wiped : ℕ → List ℕ → ℕ → List ℕ
-wiped k l used = pick (eqb k 0) l (zeroFrom l used)

@@ -1,6 +1,6 @@
 -- Every label is zero before.
+use mathlib.Core.Path.{_∙_}
 use Rattle.assemble.proofs.Ends.{frame-ready, function-put}
-use native.Mathlib.Omega.{arith}
 use borrow.Author.Needs.{needs}
 use Rattle.assemble.proofs.put_ops.Statement.{statement}
 use Rattle.assemble.proofs.put_ops.Tie as tie
@@ -26,13 +26,13 @@ put-framed-requires c κs =
     (pre .0, (pre .1 .0, (pre .1 .1 .1, frame-ready _ _ _ _ (c .before .before .before .before .before .before .before .before .before .before .zero64 .ensures) (c .before .before .before .before .before .frame-regs .ensures .0) (c .before .before .before .before .before .frame-regs .kept .1 .1 .1 .0))))
 
 same-length : tie.Need-same-length
-same-length c = omega (arith, c .before .before .before .before .before .before .put-framed .kept, c .before .before .before .before .before .before .before .before .before .before .before .before .before .before .before .before .before .zero64 .kept)
+same-length c = c .before .before .before .before .before .before .put-framed .kept .1 .1 .1 .1 .0
 
 same-length-2 : tie.Need-same-length-2
-same-length-2 c = omega (arith, c .before .before .before .before .before .before .put-framed .kept, c .before .before .before .before .before .before .before .before .before .before .before .before .before .before .before .before .before .zero64 .kept)
+same-length-2 c = c .before .before .before .before .before .before .put-framed .kept .1 .1 .1 .1 .1 .0
 
 same-length-3 : tie.Need-same-length-3
-same-length-3 c = omega (arith, c .before .before .before .before .before .before .put-framed .kept, c .before .before .before .before .before .before .before .before .before .before .before .before .before .before .before .before .before .zero64 .kept)
+same-length-3 c = c .before .before .before .before .before .before .put-framed .kept .1 .1 .1 .1 .1 .1 .0 ∙ c .before .before .before .before .before .before .before .before .before .before .before .before .before .before .before .before .before .zero64 .kept .0
 
 returns : tie.Need-returns
 returns c =

@@ -1,11 +1,12 @@
 -- Nothing, no room, or all of it.
+use mathlib.Core.Path.{_∙_}
 use denote.Ref.{now}
 use native.Mathlib.Omega.{arith}
 use Rattle.assemble.proofs.Whole.{room-few}
-use Rattle.assemble.proofs.Ends.{places-part, part-length, table-is, function-as, entry-ready, refused-before, refused-over, all-put}
+use Rattle.own_entry.proofs.Ends.{places-part, part-length, table-is, function-as, entry-ready, refused-before, refused-over, all-put}
 use borrow.Author.Needs.{needs}
-use Rattle.assemble.proofs.put_function.Statement.{statement}
-use Rattle.assemble.proofs.put_function.Tie as tie
+use Rattle.own_entry.proofs.put_function.Statement.{statement}
+use Rattle.own_entry.proofs.put_function.Tie as tie
 
 returns : tie.Need-returns
 returns c = refused-before _ _ _ _ _ _ _ _ _ (c .if1 .taken)
@@ -56,16 +57,16 @@ set64-requires-2 : tie.Need-set64-requires-2
 set64-requires-2 c κs = search needs
 
 same-length : tie.Need-same-length
-same-length c = omega (arith, c .before .before .set642 .kept, c .before .before .before .before .before .before .before .before .before .before .before .put-ops .kept, c .before .before .before .before .before .before .before .before .before .before .before .before .before .before .before .before .before .before .before .before .set64 .kept)
+same-length c = c .before .before .set642 .kept .0 ∙ c .before .before .before .before .before .before .before .before .before .before .before .before .before .before .before .before .before .before .before .before .set64 .kept .0
 
 same-length-2 : tie.Need-same-length-2
-same-length-2 c = omega (arith, c .before .before .set642 .kept, c .before .before .before .before .before .before .before .before .before .before .before .put-ops .kept, c .before .before .before .before .before .before .before .before .before .before .before .before .before .before .before .before .before .before .before .before .set64 .kept)
+same-length-2 c = c .before .before .before .before .before .before .before .before .before .before .before .put-ops .kept .1 .1 .1 .1 .0
 
 same-length-3 : tie.Need-same-length-3
-same-length-3 c = omega (arith, c .before .before .set642 .kept, c .before .before .before .before .before .before .before .before .before .before .before .put-ops .kept, c .before .before .before .before .before .before .before .before .before .before .before .before .before .before .before .before .before .before .before .before .set64 .kept)
+same-length-3 c = c .before .before .before .before .before .before .before .before .before .before .before .put-ops .kept .1 .1 .1 .1 .1 .0
 
 same-length-4 : tie.Need-same-length-4
-same-length-4 c = omega (arith, c .before .before .set642 .kept, c .before .before .before .before .before .before .before .before .before .before .before .put-ops .kept, c .before .before .before .before .before .before .before .before .before .before .before .before .before .before .before .before .before .before .before .before .set64 .kept)
+same-length-4 c = c .before .before .before .before .before .before .before .before .before .before .before .put-ops .kept .1 .1 .1 .1 .1 .1 .0
 
 returns-2 : tie.Need-returns-2
 returns-2 c =
@@ -76,16 +77,16 @@ with-ops-requires : tie.Need-with-ops-requires
 with-ops-requires c κs = search needs
 
 same-length-5 : tie.Need-same-length-5
-same-length-5 c = omega (arith, c .before .before .before .before .before .before .before .before .put-ops .kept, c .before .before .before .before .before .before .before .before .before .before .before .before .before .before .before .before .before .set64 .kept)
+same-length-5 c = c .before .before .before .before .before .before .before .before .before .before .before .before .before .before .before .before .before .set64 .kept .0
 
 same-length-6 : tie.Need-same-length-6
-same-length-6 c = omega (arith, c .before .before .before .before .before .before .before .before .put-ops .kept, c .before .before .before .before .before .before .before .before .before .before .before .before .before .before .before .before .before .set64 .kept)
+same-length-6 c = c .before .before .before .before .before .before .before .before .put-ops .kept .1 .1 .1 .1 .0
 
 same-length-7 : tie.Need-same-length-7
-same-length-7 c = omega (arith, c .before .before .before .before .before .before .before .before .put-ops .kept, c .before .before .before .before .before .before .before .before .before .before .before .before .before .before .before .before .before .set64 .kept)
+same-length-7 c = c .before .before .before .before .before .before .before .before .put-ops .kept .1 .1 .1 .1 .1 .0
 
 same-length-8 : tie.Need-same-length-8
-same-length-8 c = omega (arith, c .before .before .before .before .before .before .before .before .put-ops .kept, c .before .before .before .before .before .before .before .before .before .before .before .before .before .before .before .before .before .set64 .kept)
+same-length-8 c = c .before .before .before .before .before .before .before .before .put-ops .kept .1 .1 .1 .1 .1 .1 .0
 
 returns-3 : tie.Need-returns-3
 returns-3 c =

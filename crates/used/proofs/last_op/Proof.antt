@@ -1,10 +1,10 @@
 -- There is a last op or there is none.
 use mathlib.Core.Path.{_∙_}
 use denote.Ref.{now}
-use Rattle.assemble.proofs.Sizes.{last-none, last-some}
+use Rattle.used.proofs.Pens.{last-none, last-some}
 use borrow.Author.Needs.{needs}
-use Rattle.assemble.proofs.last_op.Statement.{statement}
-use Rattle.assemble.proofs.last_op.Tie as tie
+use Rattle.used.proofs.last_op.Statement.{statement}
+use Rattle.used.proofs.last_op.Tie as tie
 
 sub-get64 : tie.Need-sub-get64
 sub-get64 c = search needs

@@ -4,7 +4,7 @@ use mathlib.Core.List.{List}
 use Prim.Native.Nat.{ℕ, _-_}
 use borrow.Author.Tests.{eq-eqb, ne-eqb}
 use lib.ListN.{getD}
-use Rattle.assemble.specs.Assemble.{lastOf}
+use Rattle.used.specs.Pens.{lastOf}
 
 pub last-none : (ops : List ℕ) (used : ℕ) → used ≡ 0 → 0 ≡ lastOf ops used
 last-none ops used e = rw (eq-eqb used 0 e)

@@ -2,8 +2,8 @@
 use mathlib.Core.Path.{refl}
 use Rattle.base.proofs.Pens.{pens-equal}
 use borrow.Author.Needs.{needs}
-use Rattle.assemble.proofs.pen_at.Statement.{statement}
-use Rattle.assemble.proofs.pen_at.Tie as tie
+use Rattle.used.proofs.pen_at.Statement.{statement}
+use Rattle.used.proofs.pen_at.Tie as tie
 
 op-room-requires : tie.Need-op-room-requires
 op-room-requires c κs = search needs

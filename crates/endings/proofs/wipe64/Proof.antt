@@ -8,10 +8,10 @@ use borrow.Author.Tests.{leb-true}
 use lib.Dec.{leb, eqb}
 use lib.ListN.{length}
 use Rattle.base.specs.Buffers.{zeroFrom}
-use Rattle.used.proofs.Sizes.{records-in, within-too, wipes, stays, wiped-past}
+use Rattle.endings.proofs.Wipes.{records-in, within-too, wipes, stays, wiped-past}
 use borrow.Author.Needs.{needs}
-use Rattle.used.proofs.wipe64.Statement.{statement}
-use Rattle.used.proofs.wipe64.Tie as tie
+use Rattle.endings.proofs.wipe64.Statement.{statement}
+use Rattle.endings.proofs.wipe64.Tie as tie
 
 div-if1 : tie.Need-div-if1
 div-if1 c = search needs

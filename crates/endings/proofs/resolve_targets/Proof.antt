@@ -1,12 +1,12 @@
 -- Turn by turn a slot that is a label becomes its pc.
 use Prim.Native.Nat.{_-_}
-use Rattle.used.proofs.Relabels.{Relabels, relabels-start, relabels-turn, relabels-end}
+use Rattle.endings.proofs.Relabels.{Relabels, relabels-start, relabels-turn, relabels-end}
 use denote.Ref.{now}
 use native.Mathlib.Omega.{arith}
 use lib.ListN.{getD}
 use borrow.Author.Needs.{needs}
-use Rattle.used.proofs.resolve_targets.Statement.{statement}
-use Rattle.used.proofs.resolve_targets.Tie as tie
+use Rattle.endings.proofs.resolve_targets.Statement.{statement}
+use Rattle.endings.proofs.resolve_targets.Tie as tie
 
 abbrev Inv-loop : tie.InvT-loop
 Inv-loop targets₀ labels from end i₀ targets i = Relabels labels targets₀ from end i targets

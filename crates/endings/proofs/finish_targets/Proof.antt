@@ -1,8 +1,8 @@
 -- Resolved only with no refusal; else the slots stay.
 use mathlib.Core.Path.{refl}
 use borrow.Author.Needs.{needs}
-use Rattle.used.proofs.finish_targets.Statement.{statement}
-use Rattle.used.proofs.finish_targets.Tie as tie
+use Rattle.endings.proofs.finish_targets.Statement.{statement}
+use Rattle.endings.proofs.finish_targets.Tie as tie
 
 resolve-targets-requires : tie.Need-resolve-targets-requires
 resolve-targets-requires c κs = c .before .before .before .before .pre (c .before .if1 .taken)

@@ -1,8 +1,8 @@
 -- Zeroed behind a refusal, else left.
 use borrow.Author.Tests.{eq-eqb, ne-eqb}
 use borrow.Author.Needs.{needs}
-use Rattle.used.proofs.wipe32.Statement.{statement}
-use Rattle.used.proofs.wipe32.Tie as tie
+use Rattle.endings.proofs.wipe32.Statement.{statement}
+use Rattle.endings.proofs.wipe32.Tie as tie
 
 zero32-requires : tie.Need-zero32-requires
 zero32-requires c κs = search needs

@@ -1,7 +1,9 @@
 -- Four lists, each by its own used length.
+use denote.Ref.{now}
+use Rattle.endings.proofs.Wipes.{wiped-one}
 use borrow.Author.Needs.{needs}
-use Rattle.used.proofs.wipe_tables.Statement.{statement}
-use Rattle.used.proofs.wipe_tables.Tie as tie
+use Rattle.endings.proofs.wipe_lists.Statement.{statement}
+use Rattle.endings.proofs.wipe_lists.Tie as tie
 
 wipe64-requires : tie.Need-wipe64-requires
 wipe64-requires c κs = search needs
@@ -12,8 +14,8 @@ wipe32-requires c κs = search needs
 wipe64-requires-2 : tie.Need-wipe64-requires-2
 wipe64-requires-2 c κs = search needs
 
-wipe64-requires-3 : tie.Need-wipe64-requires-3
-wipe64-requires-3 c κs = search needs
+wipe32-requires-2 : tie.Need-wipe32-requires-2
+wipe32-requires-2 c κs = search needs
 
 same-length : tie.Need-same-length
 same-length c = search needs
@@ -28,21 +30,21 @@ same-length-4 : tie.Need-same-length-4
 same-length-4 c = search needs
 
 returns : tie.Need-returns
-returns c = (
-  c .before .before .before .before .before .before .before .before .before .before .before .before .before .before .wipe64 .ensures,
+returns c = let a = c .before .before .before .before .before .before .before .before .before .before .before .before .before .before .before .before .before .before .before .before .args in (
+  wiped-one (a .f .number) (now (a .ops)) _ (a .u .ops) (c .before .before .before .before .before .before .before .before .before .before .before .before .before .before .wipe64 .ensures),
   c .before .before .before .before .before .before .before .before .before .before .wipe32 .ensures,
   c .before .before .before .before .before .before .wipe642 .ensures,
-  c .before .before .wipe643 .ensures,
+  c .before .before .wipe322 .ensures,
 )
 
-pub wipe-tables-spec : {M : Type 1} → statement M
-wipe-tables-spec =
+pub wipe-lists-spec : {M : Type 1} → statement M
+wipe-lists-spec =
     tie.close
     (tie.spec
     wipe64-requires
     wipe32-requires
     wipe64-requires-2
-    wipe64-requires-3
+    wipe32-requires-2
     same-length
     same-length-2
     same-length-3

@@ -1,0 +1,2 @@
+pub mod Relabels
+pub mod Wipes
