@@ -2,7 +2,7 @@
 //!
 //! File: u32 words, least byte first. The number of calls; then records, each with the number of its words in front. Word 0 of a record says where
 //! its rows start; they stand one behind the other up to its end, a call each, all as wide as the program has them. Between are the lists that the rows
-//! name: where one starts, counted from the record's first word, and how many entries it has; an entry is a word, or a wide one of two, low half first.
+//! name: where one starts, counted from the record's first word, and how many entries it has; an entry is a word, a wide one of two, low half first, or a byte.
 //! What a buffer has to hold is such a list and a third word: the entry that stands everywhere behind it.
 
 /// Where a list starts, and how many entries it has.
@@ -41,6 +41,14 @@ impl Record {
         let at = self.at();
         self.lists.extend(words.iter().flat_map(|&w| [w as u32, (w >> 32) as u32]));
         [at, words.len() as u32]
+    }
+
+    /// A list of bytes, four to a word.
+    pub fn bytes(&mut self, bytes: &[u8]) -> List {
+        let at = self.at();
+        let word = |four: &[u8]| four.iter().rev().fold(0, |word, &byte| word << 8 | byte as u32);
+        self.lists.extend(bytes.chunks(4).map(word));
+        [at, bytes.len() as u32]
     }
 
     /// A call, by the parts of its row.
