@@ -1,11 +1,10 @@
-// Replays sequences of allocator calls whose answers came from the Rust: the file stdin, made by tools/vectors with the commit's own xralloc2.
-// The file's words are u32, least byte first. The first says how many sequences there are. A sequence: the general pool list (count,
-// registers), the floating one, how many ids the map has, how many calls, then 10 words a call: kind, five arguments, four words of answer.
-// oracle/vectors/src/alloc.rs has the table of kinds.
-
+// Replays allocator calls: sequences whose answers came from the Rust, and calls that document 01 refuses, whose numbers were written by hand: the file
+// stdin, made by tools/vectors with the commit's own xralloc2. What stands in its rows is said at the top of oracle/vectors/src/alloc.rs.
 use alloc::Alloc;
+use alloc::Entry;
 use alloc::Hint;
 use alloc_entry::Answer;
+use alloc_entry::Answered;
 use place::Class;
 use place::Found;
 use place::Place;
@@ -13,64 +12,79 @@ use place::Reg;
 ghost use mathlib.Core.Path.{_≡_};
 ghost use Prim.Native.Nat.{_≤_};
 ghost use lib.ListN.{length};
+ghost use Rattle.alloc_entry.specs.Entries.{answerNumber};
 
-// How many words the file may have, ids a map, and calls a sequence.
-const MOST_WORDS: usize = 65536;
+// How many words a row has, and how many ids a map may have.
+const WIDTH: usize = 20;
 
 const MOST_IDS: usize = 512;
 
-const MOST_CALLS: usize = 4096;
+// The words of a state, one behind the other: the ends and the places of the active entries, the free slots, masks and counts.
+const PLACES: usize = 256;
 
-// A call: its kind, its arguments in the table's order, and the Rust's answer as one word or as two masks.
-struct Call {
+const SPARE: usize = 512;
+
+const FREE: usize = 640;
+
+const COUNT: usize = 644;
+
+const SPARES: usize = 645;
+
+const MADE: usize = 646;
+
+const STATE: usize = 647;
+
+// Document 01's number of an answer, which one it is among those of its number, and what it holds.
+struct Shown {
+    number: u32,
     kind: u32,
-    a: u32,
-    b: u32,
-    c: u32,
-    d: u32,
-    e: u32,
-    word: u32,
-    general: u64,
-    floating: u64,
+    a: u64,
+    b: u64,
 }
 
-// The state after a call, and whether the answer is the Rust's.
-struct Stepped {
-    state: Alloc,
-    same: bool,
-}
-
-// Where the next sequence starts, how many calls this one has, and how many of them differ.
+// The state that a call leaves, and what differs in it.
 struct Replayed {
-    next: usize,
-    calls: usize,
-    differ: usize,
+    state: Alloc,
+    what: usize,
 }
 
-fn call_at(bytes: &[u8], at: usize) -> Call
-    requires { ⌜ at ≤ 200000 ⌝ }
+// Where a list of bytes starts and ends.
+struct Part {
+    from: usize,
+    to: usize,
+}
+
+fn show(number: u32, kind: u32, a: u64, b: u64) -> Shown
+    ensures { λ r. ⌜ r .number ≡ number ⌝ }
 {
-    Call {
-        kind: replay::word(bytes, at),
-        a: replay::word(bytes, at + 1),
-        b: replay::word(bytes, at + 2),
-        c: replay::word(bytes, at + 3),
-        d: replay::word(bytes, at + 4),
-        e: replay::word(bytes, at + 5),
-        word: replay::word(bytes, at + 6),
-        general: replay::wide(bytes, at + 6),
-        floating: replay::wide(bytes, at + 8),
+    Shown {
+        number: number,
+        kind: kind,
+        a: a,
+        b: b,
+    }
+}
+
+fn shown_of(a: Answer) -> Shown
+    ensures { λ r. ⌜ r .number ≡ answerNumber a ⌝ }
+{
+    match a {
+        Answer::Done => show(0, 0, 0, 0),
+        Answer::Placed(p) => show(0, 1, place::word_of(Found::At(p)) as u64, 0),
+        Answer::NotFree => show(0, 2, 0, 0),
+        Answer::Slots(n) => show(0, 3, n as u64, 0),
+        Answer::Registers(g, f) => show(0, 4, g, f),
+        Answer::Yes => show(0, 5, 0, 0),
+        Answer::No => show(0, 6, 0, 0),
+        Answer::TooMany => show(2, 0, 0, 0),
+        Answer::NoSlot => show(8, 0, 0, 0),
+        Answer::BadReg => show(12, 0, 0, 0),
     }
 }
 
 // General register r, or floating register r from 256 on.
 fn reg_of(number: u32) -> Reg {
-    let r = (number % 256) as u8;
-    if number < 256 {
-        Reg::Gpr(r)
-    } else {
-        Reg::Fpr(r)
-    }
+    place::reg_of((number / 256) as usize, (number % 256) as u8)
 }
 
 fn hint_of(number: u32) -> Hint {
@@ -88,262 +102,222 @@ fn class_of(number: u32) -> Class {
     }
 }
 
-// The map word of a place that was given; 0 for every other answer.
-fn place_word(a: Answer) -> u32 {
-    if let Answer::Placed(p) = a {
-        place::word_of(Found::At(p))
-    } else {
-        0
-    }
+fn place(text: &[u8], row: usize, s: Alloc, map: &mut [u32], gprs: &[u8], fprs: &[u8]) -> Answered {
+    let id = replay::word_in(text, row, 1) as usize;
+    let class = class_of(replay::word_in(text, row, 2));
+    let at = replay::word_in(text, row, 3);
+    let end = replay::word_in(text, row, 4);
+    let hint = hint_of(replay::word_in(text, row, 5));
+    alloc_entry::place_id(s, map, id, class, at, end, hint, gprs, fprs)
 }
 
-// Did a pin get its register where the Rust did, and answer "not free" where the Rust had none?
-fn pin_agrees(a: Answer, reg: Reg, got: u32) -> bool {
-    if let Answer::NotFree = a {
-        return got == 0;
-    }
-    let wanted = place::word_of(Found::At(Place::Register(reg)));
-    (got == 1) & (place_word(a) == wanted)
+fn pin(text: &[u8], row: usize, s: Alloc, map: &mut [u32], gprs: &[u8], fprs: &[u8]) -> Answered {
+    let id = replay::word_in(text, row, 1) as usize;
+    let reg = reg_of(replay::word_in(text, row, 2));
+    let end = replay::word_in(text, row, 3);
+    alloc_entry::pin_id(s, map, id, reg, end, gprs, fprs)
 }
 
-fn slots_agree(a: Answer, made: u32) -> bool {
-    if let Answer::Slots(n) = a {
-        n as u32 == made
-    } else {
-        false
-    }
-}
-
-fn masks_agree(a: Answer, general: u64, floating: u64) -> bool {
-    if let Answer::Registers(g, f) = a {
-        (g == general) & (f == floating)
-    } else {
-        false
-    }
-}
-
-fn used_agrees(a: Answer, used: u32) -> bool {
-    if let Answer::Yes = a {
-        return used == 1;
-    }
-    if let Answer::No = a {
-        return used == 0;
-    }
-    false
-}
-
-fn is_done(a: Answer) -> bool {
-    if let Answer::Done = a { true } else { false }
-}
-
-fn place_step(s: Alloc, map: &mut [u32], call: Call, gprs: &[u8], fprs: &[u8]) -> Stepped {
-    let id = call.a as usize;
-    let class = class_of(call.b);
-    let hint = hint_of(call.e);
-    let r = alloc_entry::place_id(s, map, id, class, call.c, call.d, hint, gprs, fprs);
-    let answer = r.answer;
-    let state = r.state;
-    Stepped {
-        state: state,
-        same: place_word(answer) == call.word,
-    }
-}
-
-fn pin_step(s: Alloc, map: &mut [u32], call: Call, gprs: &[u8], fprs: &[u8]) -> Stepped {
-    let id = call.a as usize;
-    let reg = reg_of(call.b);
-    let r = alloc_entry::pin_id(s, map, id, reg, call.c, gprs, fprs);
-    let answer = r.answer;
-    let state = r.state;
-    Stepped {
-        state: state,
-        same: pin_agrees(answer, reg, call.word),
-    }
-}
-
-fn expire_step(s: Alloc, call: Call, gprs: &[u8], fprs: &[u8]) -> Stepped {
-    let r = alloc_entry::expire_at(s, call.a, gprs, fprs);
-    let answer = r.answer;
-    let state = r.state;
-    Stepped {
-        state: state,
-        same: is_done(answer),
+fn found(f: Found) -> Answer {
+    match f {
+        Found::At(p) => Answer::Placed(p),
+        Found::Nowhere => Answer::No,
     }
 }
 
 // A call that asks and changes nothing.
-fn ask(s: Alloc, map: &[u32], call: Call, gprs: &[u8], fprs: &[u8]) -> bool {
-    let a = call.a;
-    let word = call.word;
-    let kind = call.kind;
+fn asked(kind: u32, a: u32, s: Alloc, map: &[u32], gprs: &[u8], fprs: &[u8]) -> Answer {
     match kind {
-        3 => slots_agree(alloc_entry::slots_made(s, gprs, fprs), word),
-        4 => masks_agree(
-            alloc_entry::live_after(s, a, gprs, fprs),
-            call.general,
-            call.floating,
-        ),
-        5 => used_agrees(alloc_entry::was_used(s, reg_of(a), gprs, fprs), word),
-        6 => place::word_of(alloc_entry::place_of(map, a as usize)) == word,
-        7 => place::word_of(alloc_entry::register_of(map, a as usize)) == word,
-        _ => false,
+        3 => alloc_entry::slots_made(s, gprs, fprs),
+        4 => alloc_entry::live_after(s, a, gprs, fprs),
+        5 => alloc_entry::was_used(s, reg_of(a), gprs, fprs),
+        6 => found(alloc_entry::place_of(map, a as usize)),
+        7 => found(alloc_entry::register_of(map, a as usize)),
+        _ => Answer::Done,
     }
 }
 
-fn step(s: Alloc, map: &mut [u32], call: Call, gprs: &[u8], fprs: &[u8]) -> Stepped {
-    let kind = call.kind;
-    match kind {
-        0 => place_step(s, map, call, gprs, fprs),
-        1 => pin_step(s, map, call, gprs, fprs),
-        2 => expire_step(s, call, gprs, fprs),
-        _ => {
-            let same = ask(s, map, call, gprs, fprs);
-            Stepped {
-                state: s,
-                same: same,
-            }
-        }
+// A fresh state, with no place in the map.
+fn fresh(map: &mut [u32], gprs: &[u8], fprs: &[u8]) -> Answered {
+    base::zero32(map, 0);
+    alloc_entry::fresh(gprs, fprs)
+}
+
+// The place of a map word that has one.
+fn place_at(word: u32) -> Place {
+    match place::found_of(word) {
+        Found::At(p) => p,
+        Found::Nowhere => Place::Slot(0),
     }
 }
 
-// The registers of the pool list of n from word `at` on.
-fn pool_at(bytes: &[u8], at: usize, n: usize) -> [u8; 64]
-    requires { ⌜ (at ≤ 100000) × (n ≤ 64) ⌝ }
-{
-    let mut regs = [0u8; 64];
-    let mut i = 0;
-    while i < n {
-        regs[i] = (replay::word(bytes, at + i) % 256) as u8;
-        i += 1;
-    }
-    regs
+// The state with another place for an active entry, another mask of free general registers, first free slot and counts, as no call leaves it.
+fn forged(text: &[u8], row: usize, s: Alloc) -> Alloc {
+    let i = replay::word_in(text, row, 1) as usize % 256;
+    let p = place_at(replay::word_in(text, row, 2));
+    let mut t = s;
+    t.active[i] = Entry {
+        end: 1000,
+        place: p,
+    };
+    t.free[0] = replay::word_in(text, row, 3) as u64;
+    t.spare[0] = (replay::word_in(text, row, 4) % 65536) as u16;
+    t.count = replay::word_in(text, row, 5) as usize;
+    t.spares = replay::word_in(text, row, 6) as usize;
+    t.made = (replay::word_in(text, row, 7) % 65536) as u16;
+    t
 }
 
-// The calls from word `at` on, one after the other from a fresh state: how many differ.
-fn replay_calls(
-    bytes: &[u8],
-    at: usize,
-    calls: usize,
-    map: &mut [u32],
+// A call that changes nothing, or none where a state is forged.
+fn answered(
+    text: &[u8],
+    row: usize,
+    kind: u32,
+    s: Alloc,
+    map: &[u32],
     gprs: &[u8],
     fprs: &[u8],
-) -> usize
-    requires { ⌜ (at ≤ 100000) × (calls ≤ 4096) ⌝ }
-    ensures { λ r. ⌜ r ≤ 4096 ⌝ }
+) -> Answered {
+    let answer = asked(kind, replay::word_in(text, row, 1), s, map, gprs, fprs);
+    let state = if kind == 9 { forged(text, row, s) } else { s };
+    Answered {
+        answer: answer,
+        state: state,
+    }
+}
+
+fn step(text: &[u8], row: usize, s: Alloc, map: &mut [u32], gprs: &[u8], fprs: &[u8]) -> Answered {
+    let kind = replay::word_in(text, row, 0);
+    match kind {
+        0 => place(text, row, s, map, gprs, fprs),
+        1 => pin(text, row, s, map, gprs, fprs),
+        2 => alloc_entry::expire_at(s, replay::word_in(text, row, 1), gprs, fprs),
+        8 => fresh(map, gprs, fprs),
+        _ => answered(text, row, kind, s, map, gprs, fprs),
+    }
+}
+
+// The bytes of the list that a row has at k.
+fn bytes_of(text: &[u8], row: usize, k: usize) -> Part
+    requires { ⌜ k ≤ 1000 ⌝ }
+    ensures { λ r. ⌜ (r .from ≤ r .to) × (r .to ≤ length (now (text .entry))) ⌝ }
 {
-    let first = alloc_entry::fresh(gprs, fprs);
-    let mut s = first.state;
-    let mut differ = 0;
+    let from = replay::least(4 * replay::word_in(text, row, k) as usize, text.len());
+    let n = replay::word_in(text, row, k + 1) as usize;
+    Part {
+        from: from,
+        to: from + replay::least(n, text.len() - from),
+    }
+}
+
+fn called(text: &[u8], row: usize, s: Alloc, map: &mut [u32]) -> Answered {
+    let g = bytes_of(text, row, 8);
+    let f = bytes_of(text, row, 10);
+    let ids = replay::least(replay::word_in(text, row, 12) as usize, map.len());
+    let g_from = g.from;
+    let g_to = g.to;
+    let f_from = f.from;
+    let f_to = f.to;
+    step(
+        text,
+        row,
+        s,
+        &mut map[..ids],
+        &text[g_from..g_to],
+        &text[f_from..f_to],
+    )
+}
+
+fn state_word(s: Alloc, i: usize) -> u64 {
+    if i < PLACES {
+        let e = s.active[i];
+        return e.end as u64;
+    }
+    if i < SPARE {
+        let e = s.active[i - PLACES];
+        let p = e.place;
+        return place::number_of(p) as u64;
+    }
+    if i < FREE {
+        return s.spare[i - SPARE] as u64;
+    }
+    match i {
+        FREE => s.free[0],
+        641 => s.free[1],
+        642 => s.used[0],
+        643 => s.used[1],
+        COUNT => s.count as u64,
+        SPARES => s.spares as u64,
+        _ => s.made as u64,
+    }
+}
+
+// Is some word of the state or of the map another?
+fn changed(s: Alloc, t: Alloc, a: &[u32], b: &[u32]) -> u64 {
     let mut i = 0;
-    while i < calls {
-        let r = step(s, map, call_at(bytes, at + 10 * i), gprs, fprs);
-        s = r.state;
-        if !r.same {
-            differ += 1;
+    while i < STATE {
+        if state_word(s, i) != state_word(t, i) {
+            return 1;
+        }
+        if base::get32(a, i) != base::get32(b, i) {
+            return 1;
         }
         i += 1;
     }
-    differ
+    0
 }
 
-// What is no sequence ends the run.
-fn no_sequence() -> Replayed
-    ensures { λ r. ⌜ (r .calls ≤ 4096) × (r .differ ≤ 4096) ⌝ }
-{
+// 2 where it is not said whether the call changes something.
+fn wrong_state(text: &[u8], row: usize, s: Alloc, t: Alloc, a: &[u32], b: &[u32]) -> usize {
+    if replay::word_in(text, row, 13) == 2 {
+        return 0;
+    }
+    replay::wrong(text, row, 13, changed(s, t, a, b), 16)
+}
+
+fn wrong_wide(text: &[u8], row: usize, k: usize, x: u64, mark: usize) -> usize {
+    if replay::wide_in(text, row, k) == x {
+        0
+    } else {
+        mark
+    }
+}
+
+// What differs in an answer: 1 for the number, 2 for which answer it is, 4 and 8 for what it holds.
+fn wrong_answer(text: &[u8], row: usize, a: Answer) -> usize {
+    let w = shown_of(a);
+    replay::wrong(text, row, 14, w.number as u64, 1)
+        | replay::wrong(text, row, 15, w.kind as u64, 2)
+        | wrong_wide(text, row, 8, w.a, 4)
+        | wrong_wide(text, row, 9, w.b, 8)
+}
+
+// The call of a row: the state that it leaves, and what differs in it.
+fn turn(text: &[u8], row: usize, s: Alloc, map: &mut [u32; MOST_IDS]) -> Replayed {
+    let before = *map;
+    let left = called(text, row, s, map);
+    let answer = left.answer;
+    let state = left.state;
+    let what = wrong_answer(text, row, answer) | wrong_state(text, row, s, state, &before, map);
     Replayed {
-        next: MOST_WORDS,
-        calls: 0,
-        differ: 1,
+        state: state,
+        what: what,
     }
-}
-
-// The sequence at word `at` whose pool lists have so many registers.
-fn replay_with(bytes: &[u8], at: usize, general: usize, floating: usize) -> Replayed
-    requires { ⌜ (at ≤ 65536) × ((general ≤ 64) × (floating ≤ 64)) ⌝ }
-    ensures { λ r. ⌜ (r .calls ≤ 4096) × (r .differ ≤ 4096) ⌝ }
-{
-    let head = at + 2 + general + floating;
-    let ids = replay::word(bytes, head) as usize;
-    if MOST_IDS < ids {
-        return no_sequence();
-    }
-    let calls = replay::word(bytes, head + 1) as usize;
-    if MOST_CALLS < calls {
-        return no_sequence();
-    }
-    let gprs = pool_at(bytes, at + 1, general);
-    let fprs = pool_at(bytes, at + 2 + general, floating);
-    let mut map = [0u32; MOST_IDS];
-    let differ = replay_calls(
-        bytes,
-        head + 2,
-        calls,
-        &mut map[..ids],
-        &gprs[..general],
-        &fprs[..floating],
-    );
-    Replayed {
-        next: head + 2 + 10 * calls,
-        calls: calls,
-        differ: differ,
-    }
-}
-
-// The sequence at word `at`.
-fn replay_sequence(bytes: &[u8], at: usize) -> Replayed
-    requires { ⌜ at ≤ 65536 ⌝ }
-    ensures { λ r. ⌜ (r .calls ≤ 4096) × (r .differ ≤ 4096) ⌝ }
-{
-    let general = replay::word(bytes, at) as usize;
-    if 64 < general {
-        return no_sequence();
-    }
-    let floating = replay::word(bytes, at + 1 + general) as usize;
-    if 64 < floating {
-        return no_sequence();
-    }
-    replay_with(bytes, at, general, floating)
-}
-
-fn report(sequences: usize, calls: usize, differ: usize) {
-    replay::number(sequences);
-    replay::write(b" sequences, ");
-    replay::number(calls);
-    replay::write(b" calls, ");
-    replay::number(differ);
-    replay::write(b" differ\n");
-}
-
-// All sequences: how many, how many calls they have, how many differ.
-fn replay_all(bytes: &[u8]) {
-    let sequences = replay::word(bytes, 0) as usize;
-    let mut at = 1;
-    let mut done = 0;
-    let mut calls = 0;
-    let mut differ = 0;
-    while done < sequences {
-        if MOST_WORDS <= at {
-            replay::write(b"the file is cut short\n");
-            return;
-        }
-        let r = replay_sequence(bytes, at);
-        at = r.next;
-        calls = (calls + r.calls) % 1000000;
-        differ = (differ + r.differ) % 1000000;
-        done += 1;
-    }
-    report(done, calls, differ);
-}
-
-// As long as a file of the most words.
-fn no_text() -> [u8; 262144]
-    ensures { λ r. ⌜ 262144 ≡ length r ⌝ }
-{
-    [0; 262144]
 }
 
 fn main() {
-    let mut bytes = no_text();
-    let n = io::read_full(0, &mut bytes);
-    replay_all(&bytes[..n]);
+    let mut text = records::no_text();
+    let calls = records::next_word();
+    let mut r = records::start();
+    let mut map = [0u32; MOST_IDS];
+    let mut state = Alloc::new(b"", b"");
+    let mut done = 0;
+    while done < calls {
+        r = records::next(&mut text, r, WIDTH);
+        let left = turn(&text, r.row, state, &mut map);
+        r = records::told(r, left.what);
+        state = left.state;
+        done += 1;
+    }
+    records::report(r);
 }

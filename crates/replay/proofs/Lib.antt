@@ -1,3 +1,4 @@
 pub mod Past
 pub mod Loading
 pub mod Comparing
+pub mod Made

@@ -39,3 +39,17 @@ alike f l i (suc k) = pick (eqb (getD l i 0) (f i)) (alike f l (i + 1) k) false
 -- what should stand at i: a list up to `used`, then the same word everywhere
 abbrev pub listed : (ℕ → ℕ) → ℕ → ℕ → ℕ → ℕ
 listed f used rest i = pick (ltb i used) (f i) rest
+
+-- the list that a row has at k: where it starts, and how many entries it has
+abbrev pub narrowList : List ℕ → ℕ → ℕ → List ℕ
+narrowList text row k = entries (wordIn text (wordIn text row k)) 0 (wordIn text row (k + 1))
+
+abbrev pub wideList : List ℕ → ℕ → ℕ → List ℕ
+wideList text row k = entries (wideIn text (wordIn text row k)) 0 (wordIn text row (k + 1))
+
+-- what should stand at i of a buffer: such a list, then the third number
+abbrev pub narrowEntry : List ℕ → ℕ → ℕ → ℕ → ℕ
+narrowEntry text row k = listed (wordIn text (wordIn text row k)) (wordIn text row (k + 1)) (wordIn text row (k + 2))
+
+abbrev pub wideEntry : List ℕ → ℕ → ℕ → ℕ → ℕ
+wideEntry text row k = listed (wideIn text (wordIn text row k)) (wordIn text row (k + 1)) (wordIn text row (k + 2))

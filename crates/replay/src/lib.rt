@@ -1,11 +1,15 @@
-// What the programs that replay test vectors share: the words of a file, buffers held against them, and lines on standard output.
+// What the programs that replay test vectors share: the words of a text, and buffers held against them.
+// A row of the text has numbers, and lists: where a list starts, how many entries it has, and, for what a buffer should hold, the entry that stands
+// everywhere behind them.
 use libc::STDIN_FILENO;
 use libc::STDOUT_FILENO;
 ghost use mathlib.Core.Path.{_≡_};
-ghost use Prim.Native.Nat.{_<_, _+_, min};
+ghost use Prim.Native.Nat.{_<_, _≤_, _+_, min};
 ghost use lib.ListN.{length, getD};
 ghost use lib.Seq.{sets};
-ghost use Rattle.replay.specs.Words.{wordAt, wideAt, wordIn, wideIn, entries, alike, listed};
+ghost use lib.Dec.{eqb};
+ghost use Rattle.base.specs.Choice.{pick};
+ghost use Rattle.replay.specs.Words.{wordAt, wideAt, wordIn, wideIn, entries, alike, listed, narrowList, wideList, narrowEntry, wideEntry};
 
 fn byte(bytes: &[u8], at: usize) -> u32
     requires { ⌜ at < length (now bytes) ⌝ }
@@ -187,6 +191,65 @@ pub fn zeros64(a: &[u64], n: usize) -> bool
         i += 1;
     }
     true
+}
+
+// The list that a row has at k, as the first words of a buffer.
+pub fn put32(text: &[u8], row: usize, k: usize, to: &mut [u32])
+    requires { ⌜ k ≤ 1000 ⌝ }
+    ensures { λ _. ⌜ now (to .exit) ≡ sets (now (to .entry)) 0 (narrowList (now (text .entry)) row k) ⌝ }
+{
+    let at = word_in(text, row, k) as usize;
+    let n = word_in(text, row, k + 1) as usize;
+    load32(text, at, to, n);
+}
+
+pub fn put64(text: &[u8], row: usize, k: usize, to: &mut [u64])
+    requires { ⌜ k ≤ 1000 ⌝ }
+    ensures { λ _. ⌜ now (to .exit) ≡ sets (now (to .entry)) 0 (wideList (now (text .entry)) row k) ⌝ }
+{
+    let at = word_in(text, row, k) as usize;
+    let n = word_in(text, row, k + 1) as usize;
+    load64(text, at, to, n);
+}
+
+// 0 where the first n words of a buffer are the list that a row has at k, and behind it the entry that should stand there; else the mark.
+pub fn wrong32(text: &[u8], row: usize, k: usize, a: &[u32], n: usize, mark: usize) -> usize
+    requires { ⌜ k ≤ 1000 ⌝ }
+    ensures { λ r. ⌜ r ≡ pick (alike (narrowEntry (now (text .entry)) row k) (now (a .entry)) 0 n) 0 mark ⌝ }
+{
+    let at = word_in(text, row, k) as usize;
+    let used = word_in(text, row, k + 1) as usize;
+    let rest = word_in(text, row, k + 2);
+    if right32(text, at, used, rest, a, n) {
+        0
+    } else {
+        mark
+    }
+}
+
+pub fn wrong64(text: &[u8], row: usize, k: usize, a: &[u64], n: usize, mark: usize) -> usize
+    requires { ⌜ k ≤ 1000 ⌝ }
+    ensures { λ r. ⌜ r ≡ pick (alike (wideEntry (now (text .entry)) row k) (now (a .entry)) 0 n) 0 mark ⌝ }
+{
+    let at = word_in(text, row, k) as usize;
+    let used = word_in(text, row, k + 1) as usize;
+    let rest = word_in(text, row, k + 2) as u64;
+    if right64(text, at, used, rest, a, n) {
+        0
+    } else {
+        mark
+    }
+}
+
+// The same for a number.
+pub fn wrong(text: &[u8], row: usize, k: usize, x: u64, mark: usize) -> usize
+    ensures { λ r. ⌜ r ≡ pick (eqb x (wordIn (now (text .entry)) row k)) 0 mark ⌝ }
+{
+    if x == word_in(text, row, k) as u64 {
+        0
+    } else {
+        mark
+    }
 }
 
 // A part is never longer than its buffer.

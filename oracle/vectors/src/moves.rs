@@ -1,11 +1,27 @@
 //! Lists of moves, and the ops that bc's `emit_parallel_move` gives for them.
 //!
-//! File: the number of lists; each list: n, then n pairs of place numbers (source, destination), then the number of ops, then each op's word,
-//! low half first. A place number is r for general register r, 256 + k for slot k.
+//! A record is a list of moves: called with exactly enough room for its ops, and with each buffer in turn a word short, which is refused. A row:
+//!
+//! | Words | |
+//! |---|---|
+//! | 0, 1 | the sources' place numbers: r for general register r, 256 + k for slot k |
+//! | 2, 3 | the destinations' |
+//! | 4, 5 | the used length before the call, the span |
+//! | 6, 7 | how many words of the ops and of the spans are lent |
+//! | 8, 9 | the number that comes back, the new used length |
+//! | 10 to 12, 13 to 15 | what the ops and the spans hold afterwards; before the call they hold zeros |
 use garden::bc::Cc;
 use garden::rng::Random;
 use garden::words::word;
 use garden::xralloc2::{Location, Reg};
+use records::{File, Record, ZEROS, held};
+
+/// How many ops stand before a list's, and the span of these.
+const USED: u32 = 3;
+const SPAN: u32 = 7;
+
+/// The number of a refusal for too little room.
+const NO_ROOM: u32 = 9;
 
 fn location(place: u32) -> Location {
     if place < 256 { Location::Reg(Reg::Gpr(place as u8)) } else { Location::Stack((place - 256) as u16) }
@@ -63,6 +79,23 @@ fn any(random: &mut Random) -> Vec<(u32, u32)> {
     (0..n).map(|i| (all[random.below(reach) as usize], all[i])).filter(|(s, d)| s != d).collect()
 }
 
+fn record(list: &[(u32, u32)]) -> Record {
+    let mut record = Record::default();
+    let (sources, destinations): (Vec<u32>, Vec<u32>) = list.iter().copied().unzip();
+    let moves = [record.narrow(&sources), record.narrow(&destinations)].concat();
+    let ops = ops(list);
+    let end = USED + ops.len() as u32;
+    let spans = [vec![0; USED as usize], vec![SPAN; ops.len()]].concat();
+    let left = [held(record.wide(&[vec![0; USED as usize], ops].concat()), 0), held(record.narrow(&spans), 0)].concat();
+    record.call(&[&moves, &[USED, SPAN, end, end, 0, end], &left]);
+    if end > USED {
+        for [ops, spans] in [[end - 1, end], [end, end - 1]] {
+            record.call(&[&moves, &[USED, SPAN, ops, spans, NO_ROOM, 0], &ZEROS, &ZEROS]);
+        }
+    }
+    record
+}
+
 pub fn vectors() -> (Vec<u32>, String) {
     let random = &mut Random::new(0x4f08286203);
     // Document 01's examples 1 to 3, then the shapes that are hard, then any.
@@ -79,14 +112,7 @@ pub fn vectors() -> (Vec<u32>, String) {
     }
     lists.extend((0..250).map(|_| any(random)));
 
-    let (mut out, mut total) = (vec![lists.len() as u32], 0);
-    for list in &lists {
-        out.push(list.len() as u32);
-        out.extend(list.iter().flat_map(|&(s, d)| [s, d]));
-        let ops = ops(list);
-        total += ops.len();
-        out.push(ops.len() as u32);
-        out.extend(ops.iter().flat_map(|&w| [w as u32, (w >> 32) as u32]));
-    }
-    (out, format!("{} lists of moves, {total} ops, 0 differ", lists.len()))
+    let mut file = File::default();
+    lists.iter().for_each(|list| file.add(record(list)));
+    file.done()
 }
