@@ -1,4 +1,4 @@
-/* The compiler's back end for other languages: libagnulfrosc.a, written by `rt staticlib agnulfrosc`.
+/* The compiler's back end for other languages: libagnulfrosc.a, written by `sh tools/archive agnulfrosc`.
  *
  * Every entry takes any input, ends, and answers a number, 0 for Done. A buffer is a pointer and how many elements it has; any pair that is
  * valid memory will do, null with 0 too. No two buffers of a call may overlap. docs/INPUT.md has the words of a function, docs/OPS.md those of

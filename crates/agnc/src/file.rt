@@ -2,7 +2,9 @@
 // half first, then the functions one behind the other. What is wrong with a file is said on standard error.
 ghost use Rattle.std.specs.Prelude.{◌≤◌, length};
 
-use libc::STDERR_FILENO;
+use crate::errors::{STDERR_FILENO, fail};
+use std::fs::File;
+use std::io::Read;
 use std::num::wrapping_add_u32;
 
 // The words of the longest file, and its bytes with room for 65,536 more: a file that is too long is told from one that is not.
@@ -59,7 +61,7 @@ const PROBLEMS: [u8; 372] = *b"\
     ";
 
 // How many functions there are, and what is wrong with the one behind them.
-#[derive(Drop)]
+#[derive(Clone, Copy)]
 pub struct Counted {
     pub count: usize,
     pub problem: u8,
@@ -145,14 +147,16 @@ pub fn split(ws: &[u32], ends: &mut [u32]) -> Counted
 }
 
 // Is that all of the file, or more than there is room for? A reading that failed is said.
-pub fn is_read(n: usize, fd: i32, path: &[u8]) -> bool {
+pub fn is_read(n: usize, file: &mut File, path: &[u8]) -> bool {
     let mut byte = [0u8; 1];
     if MOST_BYTES <= n {
         return true;
     }
-    if libc::read(fd, &mut byte) < 0 {
-        os::fail(path);
-        return false;
+    match file.read(&mut byte) {
+        Ok(_) => true,
+        Err(error) => {
+            fail(path, &error);
+            false
+        }
     }
-    true
 }

@@ -2,13 +2,21 @@
 // The form of a FILE stands at the top of file.rt, a function's words in docs/INPUT.md, and the plain form in listing. The function table has
 // room for 4,096 ids. Nothing is compacted. What is wrong is said on standard error, and of a file that is none nothing else is written. A
 // refusal ends the program: what was compiled before it is shown.
+#![tactic(auto)]
+
+mod errors;
 mod file;
 
+use errors::{NAME_TOO_LONG, NO_TEXT, STDERR_FILENO, fail};
 use file::{Bytes, Words};
-use libc::STDERR_FILENO;
 use listing::Table;
 use replay::least;
+use std::env::FillError;
+use std::fs::File;
+use std::io::Error;
 use std::num::wrapping_sub_usize;
+use std::os::fd::AsRawFd;
+use std::rt::Env;
 
 // The commands.
 const USAGE: u8 = 0;
@@ -58,23 +66,29 @@ fn run_bytes(command: u8, bytes: &[u8], ws: &mut [u32]) {
 }
 
 // The command over an open file.
-fn run_open(command: u8, fd: i32, path: &[u8], bytes: &mut [u8], ws: &mut [u32]) {
-    let n = io::read_full(fd, bytes);
-    let read = file::is_read(n, fd, path);
-    libc::close(fd);
+fn run_open(command: u8, mut file: File, path: &[u8], bytes: &mut [u8], ws: &mut [u32]) {
+    let n = io::read_full(file.as_raw_fd(), bytes);
+    let read = file::is_read(n, &mut file, path);
+    drop(file);
     if read {
         run_bytes(command, &bytes[..n], ws);
     }
 }
 
-// The command over the file of that name.
-fn run_file(command: u8, path: &[u8], bytes: &mut Bytes, ws: &mut Words) {
-    let fd = os::open_read(path);
-    if fd < 0 {
-        os::fail(path);
-        return;
+// A path is text.
+fn open(rt: &HostRuntime, path: &[u8]) -> Result<File, Error> {
+    match str::from_utf8(path) {
+        Ok(name) => File::open(rt, name),
+        Err(_) => Err(Error::from_raw_os_error(NO_TEXT)),
     }
-    run_open(command, fd, path, bytes, ws);
+}
+
+// The command over the file of that name.
+fn run_file(rt: &HostRuntime, command: u8, path: &[u8], bytes: &mut Bytes, ws: &mut Words) {
+    match open(rt, path) {
+        Ok(file) => run_open(command, file, path, bytes, ws),
+        Err(error) => fail(path, &error),
+    }
 }
 
 // Is it that word?
@@ -105,14 +119,25 @@ fn command_of(word: &[u8]) -> u8 {
     USAGE
 }
 
+// Is there an argument i?
+fn is_given(rt: &HostRuntime, i: usize) -> bool {
+    let mut none = [0u8; 0];
+    match rt.arg(i, &mut none) {
+        Err(FillError::NotPresent) => false,
+        _ => true,
+    }
+}
+
 // The first argument, if there is one more and no other.
-fn command() -> u8 {
+fn command(rt: &HostRuntime) -> u8 {
     let mut word = [0u8; 16];
-    let n = os::arg(1, &mut word);
-    if os::arg_count() != 3 {
+    if !is_given(rt, 2) || is_given(rt, 3) {
         return USAGE;
     }
-    command_of(&word[..n])
+    match rt.arg(1, &mut word) {
+        Ok(n) => command_of(&word[..n]),
+        Err(_) => USAGE,
+    }
 }
 
 fn usage() {
@@ -124,19 +149,22 @@ fn usage() {
     );
 }
 
-fn main() {
-    let command = command();
+fn main(rt: HostRuntime) {
+    let command = command(&rt);
     let mut path = io::buffer();
     if command == USAGE {
         usage();
         return;
     }
-    let n = os::arg(2, &mut path);
-    if os::errno() != 0 {
-        os::fail(b"agnc: the file's name");
-        return;
-    }
+    let n = match rt.arg(2, &mut path) {
+        Ok(n) => n,
+        Err(_) => {
+            let error = Error::from_raw_os_error(NAME_TOO_LONG);
+            fail(b"agnc: the file's name", &error);
+            return;
+        }
+    };
     let mut bytes = [0u8; 1114112];
     let mut ws = [0u32; 262144];
-    run_file(command, &path[..n], &mut bytes, &mut ws);
+    run_file(&rt, command, &path[..n], &mut bytes, &mut ws);
 }

@@ -1,5 +1,5 @@
 -- Allocation (xr), rule by rule.
-use Rattle.std.specs.Prelude.{ℕ, ◌+◌, ◌-◌, Bool, true, false, List, [], ◌∷◌, leb, ltb, eqb, length, get_or, set}
+use Rattle.std.specs.Prelude.{ℕ, ◌+◌, ◌-◌, Bool, false, List, [], ◌∷◌, leb, ltb, eqb, length, get_or, set}
 use Rattle.base.specs.Choice.{pick}
 use Rattle.base.specs.Masks.{has_bit, with_bit, without_bit}
 use Rattle.place.specs.declared.Reg.{Reg}

@@ -1,6 +1,6 @@
 -- The allocator's state is the struct's own record: an array of 256 active entries beside its count, the free and the used registers as two
 -- masks by class number, an array of 128 free slots beside its count, and how many slots were made.
-use Rattle.std.specs.Prelude.{ℕ, ◌+◌, List, [], ◌∷◌, ◌++◌, length, get_or, take, drop, set, replicate}
+use Rattle.std.specs.Prelude.{ℕ, List, [], ◌∷◌, ◌++◌, length, take, drop, replicate}
 use Rattle.base.specs.Masks.{with_bit}
 use Rattle.place.specs.declared.Place.TheVariants.{Slot}
 use Rattle.alloc.specs.declared.Entry.{Entry}

@@ -1,4 +1,6 @@
 // The allocator, by value. The pool lists and the map from id to place are lent.
+#![tactic(auto)]
+
 ghost use Rattle.std.specs.Prelude.{◌≡◌, ◌<◌, ◌≤◌, get_or};
 ghost use Rattle.alloc.specs.State.{most_active, most_slots, live, mask_of, fresh_of};
 ghost use Rattle.alloc.specs.Allocation.{free_reg, free_slot, release, expire_of, is_free, take_reg, last_free, take_slot, from_pool, hinted, take_of, entered, new_place, map_entered, place_of, map_after_place, pin_of, map_after_pin, notes, live_after};
@@ -7,13 +9,13 @@ ghost use Rattle.alloc.specs.Good.{Good, Releasable};
 use place::{Found, Place, Reg};
 
 // Who holds a place, and until when.
-#[derive(Drop)]
+#[derive(Clone, Copy)]
 pub struct Entry {
     pub end: u32,
     pub place: Place,
 }
 
-#[derive(Drop)]
+#[derive(Clone, Copy)]
 pub struct Alloc {
     pub active: [Entry; 256],
     pub count: usize,
@@ -24,27 +26,27 @@ pub struct Alloc {
     pub made: u16,
 }
 
-#[derive(Drop)]
+#[derive(Clone, Copy)]
 pub enum Hint {
     Nowhere,
     At(Reg),
 }
 
 // What taking a place gives.
-#[derive(Drop)]
+#[derive(Clone, Copy)]
 pub enum Got {
     At(Place),
     NoSlot,
 }
 
 // A register of the pool that is free, if there is one.
-#[derive(Drop)]
+#[derive(Clone, Copy)]
 pub enum Ready {
     At(u8),
     Nothing,
 }
 
-#[derive(Drop)]
+#[derive(Clone, Copy)]
 pub struct Taken {
     pub state: Alloc,
     pub got: Got,

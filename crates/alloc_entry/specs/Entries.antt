@@ -1,10 +1,9 @@
 -- What each public entry answers. A refused call changes nothing. 2 comes first; then a state or list that is none is 12, since nothing can be
 -- said of what it holds; then 8; then 12 for the numbers of the call.
-use Rattle.std.specs.Prelude.{ℕ, Bool, true, false, List, [], ◌∷◌, ltb, eqb, length, get_or}
+use Rattle.std.specs.Prelude.{ℕ, Bool, true, false, List, [], ltb, eqb, length, get_or}
 use Rattle.base.specs.Choice.{pick}
 use Rattle.base.specs.Masks.{has_bit}
 use Rattle.place.specs.declared.Reg.{Reg}
-use Rattle.place.specs.declared.Place.{Place}
 use Rattle.place.specs.declared.Place.TheVariants.{Slot, Register}
 use Rattle.place.specs.declared.Found.{Found}
 use Rattle.place.specs.declared.Found.TheVariants as found

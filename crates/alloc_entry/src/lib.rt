@@ -1,4 +1,6 @@
 // The allocator's public entries: each takes any state, any lists and any numbers, and refuses by number.
+#![tactic(auto)]
+
 ghost use Rattle.std.specs.Prelude.{◌≡◌, [], ℕ, ◌<◌};
 ghost use Rattle.place.specs.Places.{class_number};
 ghost use Rattle.alloc.specs.State.{fresh_of};
@@ -11,7 +13,7 @@ use alloc::{Alloc, Got, Hint};
 use place::{Class, Found, Place, Reg};
 
 // What an entry answers.
-#[derive(Drop)]
+#[derive(Clone, Copy)]
 pub enum Answer {
     Done,
     Placed(Place),
@@ -25,7 +27,7 @@ pub enum Answer {
     BadReg,
 }
 
-#[derive(Drop)]
+#[derive(Clone, Copy)]
 pub struct Answered {
     pub answer: Answer,
     pub state: Alloc,

@@ -19,7 +19,7 @@ use Rattle.alloc.specs.declared.Alloc.{Alloc}
 use Rattle.alloc.specs.State.{most_slots, live, free_slots, empty_entry}
 use Rattle.alloc.proofs.Owned.{Fitted}
 use Rattle.alloc_state.specs.declared.Marks.{Marks}
-use Rattle.alloc_state.specs.Judged.{all_below, in_mask, active_places, free_regs, places_of, ours, all_ours, state_ok}
+use Rattle.alloc_state.specs.Judged.{all_below, in_mask, active_places, free_regs, places_of, ours, all_ours}
 use Rattle.alloc_state.specs.Marks.{pool_masks, within, marks_of, mark_all, slot_places, entry_places}
 use Rattle.alloc_state.proofs.Distinct.{iff, and_intro, and_left, and_right, among-append, distinct_swap, fresh_in, fresh-distinct}
 use Rattle.alloc_state.proofs.Ours.{pool-has, below_each, mask_in, whole_out, whole-past, From, whole_back, mask_distinct, within-each, each_within, ours_gpr, ours_fpr, ours-append, ours-each, each-ours}

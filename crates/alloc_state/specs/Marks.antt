@@ -1,5 +1,5 @@
 -- How a state is judged in one pass: each place is marked once, in masks. A place that is not ours, or is marked already, is refused.
-use Rattle.std.specs.Prelude.{ℕ, ◌/◌, ◌%◌, Bool, true, false, List, [], ◌∷◌, map, ltb, eqb, get_or, set}
+use Rattle.std.specs.Prelude.{ℕ, ◌/◌, ◌%◌, Bool, false, List, [], ◌∷◌, map, ltb, eqb, get_or, set}
 use Rattle.std.specs.Int.Bits.{bit_and}
 use Rattle.base.specs.Choice.{pick}
 use Rattle.base.specs.Masks.{has_bit, with_bit}
@@ -9,7 +9,7 @@ use Rattle.place.specs.declared.Place.TheVariants.{Slot, Register}
 use Rattle.place.specs.Places.{class_of, index_of}
 use Rattle.alloc.specs.declared.Entry.{Entry}
 use Rattle.alloc.specs.declared.Alloc.{Alloc}
-use Rattle.alloc.specs.State.{live, free_slots, mask_of}
+use Rattle.alloc.specs.State.{mask_of}
 use Rattle.alloc_state.specs.declared.Marks.{Marks}
 
 -- number k of the mask at c of a pair of masks, and the pair with it

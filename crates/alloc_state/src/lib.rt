@@ -1,4 +1,6 @@
 // Judging a state of the allocator, and its pool lists, that are not known to be any.
+#![tactic(auto)]
+
 ghost use Rattle.std.specs.Prelude.{◌≡◌, ◌<◌, ◌≤◌};
 ghost use Rattle.alloc.specs.State.{most_active, most_slots, live, free_slots};
 ghost use Rattle.alloc_state.specs.Judged.{reg_ok, all_below, counts_ok, state_ok, lists_short};
@@ -8,7 +10,7 @@ use alloc::Alloc;
 use place::{Place, Reg};
 
 // What was marked of a state, and whether nothing was refused.
-#[derive(Drop)]
+#[derive(Clone, Copy)]
 struct Marks {
     ok: bool,
     regs: [u64; 2],

@@ -1,5 +1,7 @@
 // Replays allocator calls: sequences whose answers came from the Rust, and calls that document 01 refuses, whose numbers were written by hand: the file
 // stdin, made by tools/vectors with the commit's own xralloc2. What stands in its rows is said at the top of oracle/vectors/src/alloc.rs.
+#![tactic(auto)]
+
 ghost use Rattle.std.specs.Prelude.{◌≡◌, ◌≤◌, length};
 ghost use Rattle.alloc_entry.specs.Entries.{answer_number};
 
@@ -28,7 +30,7 @@ const MADE: usize = 646;
 const STATE: usize = 647;
 
 // Document 01's number of an answer, which one it is among those of its number, and what it holds.
-#[derive(Drop)]
+#[derive(Clone, Copy)]
 struct Shown {
     number: u32,
     kind: u32,
@@ -37,14 +39,14 @@ struct Shown {
 }
 
 // The state that a call leaves, and what differs in it.
-#[derive(Drop)]
+#[derive(Clone, Copy)]
 struct Replayed {
     state: Alloc,
     what: usize,
 }
 
 // Where a list of bytes starts and ends.
-#[derive(Drop)]
+#[derive(Clone, Copy)]
 struct Part {
     from: usize,
     to: usize,

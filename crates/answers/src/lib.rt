@@ -1,4 +1,5 @@
 // Used lengths and answers as words of a buffer, for other languages.
+#![tactic(auto)]
 ghost use Rattle.std.specs.Prelude.{◌≡◌, [], ◌∷◌};
 ghost use Rattle.std.proofs.lemmas.List.Edits.{sets};
 ghost use Rattle.answers.specs.Answers.{used_in, used_words, used_after};
@@ -6,7 +7,7 @@ ghost use Rattle.answers.specs.Answers.{used_in, used_words, used_after};
 use lists::Used;
 
 // An entry's answer: its number, a used length, and the index of what is refused, where there is one.
-#[derive(Drop)]
+#[derive(Clone, Copy)]
 pub struct Numbers {
     pub number: u8,
     pub used: usize,

@@ -1,4 +1,6 @@
 // One function's ops behind those of the program.
+#![tactic(auto)]
+
 ghost use Rattle.std.specs.Prelude.{◌*◌, ◌≤◌, take};
 ghost use Rattle.place.specs.Registers.{registers};
 ghost use Rattle.instrs.specs.Instrs.{seen};

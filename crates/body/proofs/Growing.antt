@@ -1,7 +1,7 @@
 -- Every rule of lowering only adds, and so does a body.
 use mathlib.Core.Path.{◌≡◌}
 use mathlib.Core.Bool.{Bool, true, false}
-use Prim.Native.Nat.{ℕ, zero, suc, ◌≤◌}
+use Prim.Native.Nat.{ℕ, zero, suc, ◌≤◌, ◌+◌}
 use mathlib.Core.List.{List}
 use lib.Dec.{ltb, eqb}
 use lib.ListN.{length, take}
@@ -11,7 +11,7 @@ use Rattle.base.proofs.Numbers.{pick-both}
 use Rattle.place.specs.Places.{slots_from}
 use Rattle.op.specs.declared.Op.{Op}
 use Rattle.input.specs.Layout.{function_id}
-use Rattle.input.specs.Records as in_words_lem
+use Rattle.input.specs.Records as in_words
 use Rattle.input.specs.Records.{is_live, instr_kind, term_kind, term_operand_count}
 use Rattle.lower.specs.Operands.{fetched, stored}
 use Rattle.lower.specs.Instructions.{lower_bin, lower_bin_imm, lower_cast, lower_alloc, lower_store, lower_load, lower_addr_of, lower_lookup, lower_assert, const_ops, is_global, lower_const}
@@ -21,7 +21,7 @@ use Rattle.calls.specs.Calls.{shuffle, call_with, lower_call, lower_sys, lower_t
 use Rattle.body.specs.declared.Tally.{Tally}
 use Rattle.instrs.specs.Instrs.{Env, memory_ops, compute_ops, load_const_ops, call_ops, sys_ops, instr_ops, instrs_ops}
 use Rattle.terms.specs.Terms.{return_ops, branch_ops, switch_ops, term_ops}
-use Rattle.body.specs.Body.{block_ops, blocks_ops, ends_flow, root_ret, body_ops}
+use Rattle.body.specs.Body.{tallied, block_ops, blocks_ops, ends_flow, root_ret, body_ops}
 use Rattle.body.proofs.Grows.{Grows, stays, by_all, by-emit, by_span, by-bind, starts_few, starts_keeps, Within}
 
 -- a rule that only adds, whatever came before it
@@ -91,7 +91,7 @@ loaded_grows : (kind payload global d : ℕ) → Growing (const_ops kind payload
 unfolding const_ops
 loaded_grows kind payload global d =
     choose (is_global kind payload) (emits _)
-    (choose (eqb kind in_words_lem.int_const) (emits _) (choose (eqb kind in_words_lem.true_const) (emits _) (choose (eqb kind in_words_lem.false_const) (emits _) nothing)))
+    (choose (eqb kind in_words.int_const) (emits _) (choose (eqb kind in_words.true_const) (emits _) (choose (eqb kind in_words.false_const) (emits _) nothing)))
 
 const_grows : (n dst kind payload global : ℕ) → Growing (lower_const n dst kind payload global)
 unfolding lower_const
@@ -126,7 +126,7 @@ module _ (n : ℕ) (ws map : List ℕ) where
   pads_grow label e (suc k) =
       record {
         by = λ {o} g.
-            pick-both (Grows o) (has_moves ws map e) _ _ ((pads_grow _ _ k).by ((edge_grows _ _).by (by-bind _ g))) ((pads_grow _ _ k).by g);
+            pick-both (Grows o) (has_moves ws map e) _ _ ((pads_grow (label + 1) (e + 1) k).by ((edge_grows _ _).by (by-bind _ g))) ((pads_grow label (e + 1) k).by g);
       }
 
   cases_grow : (label next e cases : ℕ) → Growing (switch_edges n ws map label next e cases)
@@ -161,18 +161,18 @@ module _ (n : ℕ) (ws places : List ℕ) (i : ℕ) where
   memory_grows : Growing (memory_ops n ws places i)
   unfolding memory_ops
   memory_grows =
-      choose (eqb (instr_kind ws i) in_words_lem.alloc) (alloc_grows n _ _ _ _)
-      (choose (eqb (instr_kind ws i) in_words_lem.store) (store_grows n _ _ _)
-      (choose (eqb (instr_kind ws i) in_words_lem.load) (load_grows n _ _ _)
-      (choose (eqb (instr_kind ws i) in_words_lem.addr_of) (address_grows n _ _ _) nothing)))
+      choose (eqb (instr_kind ws i) in_words.alloc) (alloc_grows n _ _ _ _)
+      (choose (eqb (instr_kind ws i) in_words.store) (store_grows n _ _ _)
+      (choose (eqb (instr_kind ws i) in_words.load) (load_grows n _ _ _)
+      (choose (eqb (instr_kind ws i) in_words.addr_of) (address_grows n _ _ _) nothing)))
 
   compute_grows : Growing (compute_ops n ws places i)
   unfolding compute_ops
   compute_grows =
-      choose (eqb (instr_kind ws i) in_words_lem.bin) (bin_grows n _ _ _ _)
-      (choose (eqb (instr_kind ws i) in_words_lem.bin_imm) (imm_grows n _ _ _ _)
-      (choose (eqb (instr_kind ws i) in_words_lem.cast) (cast_grows n _ _ _ _)
-      (choose (eqb (instr_kind ws i) in_words_lem.assert) (assert_grows n _ _) memory_grows)))
+      choose (eqb (instr_kind ws i) in_words.bin) (bin_grows n _ _ _ _)
+      (choose (eqb (instr_kind ws i) in_words.bin_imm) (imm_grows n _ _ _ _)
+      (choose (eqb (instr_kind ws i) in_words.cast) (cast_grows n _ _ _ _)
+      (choose (eqb (instr_kind ws i) in_words.assert) (assert_grows n _ _) memory_grows)))
 
   constant_grows : (globals : List ℕ) (c : ℕ) → Growing (load_const_ops n ws places globals i c)
   unfolding load_const_ops
@@ -190,15 +190,15 @@ module _ (n : ℕ) (env : Env) where
   instr_grows : (table i : ℕ) → Growing (instr_ops n env table i)
   unfolding instr_ops
   instr_grows table i =
-      choose (eqb (instr_kind env.ws i) in_words_lem.load_const) (constant_grows n env.ws env.places i _ _)
-      (choose (eqb (instr_kind env.ws i) in_words_lem.call) (called_grows n env.ws env.places i _ _)
-      (choose (eqb (instr_kind env.ws i) in_words_lem.sys) (builtin_grows n env.ws env.places i _ _)
-      (choose (eqb (instr_kind env.ws i) in_words_lem.lookup) (lookup_grows n _ _ _) (compute_grows n env.ws env.places i))))
+      choose (eqb (instr_kind env.ws i) in_words.load_const) (constant_grows n env.ws env.places i _ _)
+      (choose (eqb (instr_kind env.ws i) in_words.call) (called_grows n env.ws env.places i _ _)
+      (choose (eqb (instr_kind env.ws i) in_words.sys) (builtin_grows n env.ws env.places i _ _)
+      (choose (eqb (instr_kind env.ws i) in_words.lookup) (lookup_grows n _ _ _) (compute_grows n env.ws env.places i))))
 
   instrs_grow : (table i k : ℕ) → Growing (instrs_ops n env table i k)
   unfolding instrs_ops
   instrs_grow table i zero = record { by = λ g. g }
-  instrs_grow table i (suc k) = record { by = λ g. (instrs_grow _ _ k).by ((instr_grows table i).by (by_span _ g)) }
+  instrs_grow table i (suc k) = record { by = λ g. (instrs_grow (table + pick (eqb (instr_kind env.ws i) in_words.lookup) 1 0) (i + 1) k).by ((instr_grows table i).by (by_span _ g)) }
 
 -- ---- terminators
 module _ (n : ℕ) (ws places : List ℕ) where
@@ -210,8 +210,8 @@ module _ (n : ℕ) (ws places : List ℕ) where
   branches_grow : (next b : ℕ) → Growing (branch_ops n ws places next b)
   unfolding branch_ops
   branches_grow next b =
-      choose (eqb (term_kind ws b) in_words_lem.branch) (record { by = λ g. (branch_grows n ws places _ _ _ _).by (by-fetch n _ g) })
-      (choose (eqb (term_kind ws b) in_words_lem.branch_cmp_imm) (record { by = λ g. (branch_grows n ws places _ _ _ _).by (by-fetch n _ g) })
+      choose (eqb (term_kind ws b) in_words.branch) (record { by = λ g. (branch_grows n ws places _ _ _ _).by (by-fetch n _ g) })
+      (choose (eqb (term_kind ws b) in_words.branch_cmp_imm) (record { by = λ g. (branch_grows n ws places _ _ _ _).by (by-fetch n _ g) })
       (record { by = λ g. (branch_grows n ws places _ _ _ _).by (by-fetch n _ (by-fetch n _ g)) }))
 
   switch_grows : (table label next b : ℕ) → Growing (switch_ops n ws places table label next b)
@@ -225,11 +225,11 @@ module _ (n : ℕ) (env : Env) where
   term_grows table label next b =
       record {
         by = λ {o} g.
-            pick-both (Grows o) (eqb (term_kind env.ws b) in_words_lem.no_term) _ _ g
-            ((choose (eqb (term_kind env.ws b) in_words_lem.return) (return_grows n env.ws env.places b)
-            (choose (eqb (term_kind env.ws b) in_words_lem.jump) (edge_grows n env.ws env.places _ _)
-            (choose (eqb (term_kind env.ws b) in_words_lem.tail_call) (tail_grows n env.places _ _)
-            (choose (eqb (term_kind env.ws b) in_words_lem.switch) (switch_grows n env.ws env.places table label next b)
+            pick-both (Grows o) (eqb (term_kind env.ws b) in_words.no_term) _ _ g
+            ((choose (eqb (term_kind env.ws b) in_words.return) (return_grows n env.ws env.places b)
+            (choose (eqb (term_kind env.ws b) in_words.jump) (edge_grows n env.ws env.places _ _)
+            (choose (eqb (term_kind env.ws b) in_words.tail_call) (tail_grows n env.places _ _)
+            (choose (eqb (term_kind env.ws b) in_words.switch) (switch_grows n env.ws env.places table label next b)
             (branches_grow n env.ws env.places next b))))
             ).by (by_span _ g));
       }
@@ -243,7 +243,7 @@ module _ (n : ℕ) (env : Env) where
   blocks_grow t b zero = record { by = λ g. g }
   blocks_grow t b (suc k) =
       record {
-        by = λ {o} g. pick-both (Grows o) (is_live env.ws b) _ _ ((blocks_grow _ _ k).by ((block_grows t b k).by g)) ((blocks_grow t _ k).by g);
+        by = λ {o} g. pick-both (Grows o) (is_live env.ws b) _ _ ((blocks_grow (tallied env.ws env.places b t) (b + 1) k).by ((block_grows t b k).by g)) ((blocks_grow t (b + 1) k).by g);
       }
 
 root_grows : (ws : List ℕ) → Growing (root_ret ws)

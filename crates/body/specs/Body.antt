@@ -5,7 +5,7 @@ use Rattle.base.specs.Emission.{Out, emit, bind}
 use Rattle.op.specs.Words.{word, parts}
 use Rattle.op.specs.Ops as op
 use Rattle.input.specs.Layout.{function_id, blocks}
-use Rattle.input.specs.Records as in_words_lem
+use Rattle.input.specs.Records as in_words
 use Rattle.input.specs.Records.{is_live, first_instr, instr_count, term_kind, first_edge, term_y}
 use Rattle.edges.specs.Edges.{pad_count}
 use Rattle.instrs.specs.Instrs.{Env, lookups_in, instrs_ops}
@@ -18,7 +18,7 @@ next_live ws b zero = b
 next_live ws b (suc k) = pick (is_live ws b) b (next_live ws (b + 1) k)
 
 abbrev pub is_switch : List ℕ → ℕ → Bool
-is_switch ws b = eqb (term_kind ws b) in_words_lem.switch
+is_switch ws b = eqb (term_kind ws b) in_words.switch
 
 -- the numbers of the next switch table and the next lookup table, and the label of the next pad, behind block b
 unfoldable pub tallied : List ℕ → List ℕ → ℕ → Tally → Tally

@@ -1,4 +1,6 @@
 // A function's body: its rows in order.
+#![tactic(auto)]
+
 ghost use Rattle.std.specs.Prelude.{◌≡◌, true, List, ℕ, ◌+◌, ◌*◌, ◌-◌, ◌≤◌, ◌<◌, take};
 ghost use Rattle.base.specs.Lent.{Lowers};
 ghost use Rattle.place.specs.Registers.{registers};
@@ -31,7 +33,7 @@ fn next_live(ws: &[u32], b: u32, k: u32) -> u32
 }
 
 // The numbers of the next switch table and the next lookup table, and the label of the next pad.
-#[derive(Drop)]
+#[derive(Clone, Copy)]
 pub struct Tally {
     pub switches: u32,
     pub lookups: u32,

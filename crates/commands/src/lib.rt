@@ -4,7 +4,6 @@
 ghost use Rattle.std.specs.Prelude.{◌≤◌};
 
 use compile::Compiled;
-use libc::{STDERR_FILENO, STDOUT_FILENO};
 use listing::{
     Builtins, COMPILED, Facts, Globals, Kept, Lookups, Ops, Spans, Switches, Table, Targets,
     UNUSED, Values, end, field, write,
@@ -14,6 +13,11 @@ use replay::least;
 use std::num::{wrapping_add_usize, wrapping_sub_usize};
 use strings::Strings;
 
+// The numbers of standard output and standard error.
+const STDOUT_FILENO: i32 = 1;
+
+const STDERR_FILENO: i32 = 2;
+
 // Document 01's number for what finds no room.
 const NO_ROOM: u8 = 9;
 
@@ -21,7 +25,7 @@ const NO_ROOM: u8 = 9;
 type Places = [u32; 4096];
 
 // How far a program has come: the number of a refusal and which function it is of, the used lengths, and how many places are kept.
-#[derive(Drop)]
+#[derive(Clone, Copy)]
 struct State {
     number: u8,
     index: usize,
@@ -30,7 +34,7 @@ struct State {
 }
 
 // Where a function's words start and end.
-#[derive(Drop)]
+#[derive(Clone, Copy)]
 struct Part {
     from: usize,
     to: usize,

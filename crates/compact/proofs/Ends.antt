@@ -10,7 +10,7 @@ use lib.Dec.{leb, eqb}
 use lib.ListN.{length, take, length-map}
 use lib.Seq.{sets, length-take-le}
 use Rattle.base.specs.Choice.{pick}
-use Rattle.base.specs.Limits.{most_of_akind}
+use Rattle.base.specs.Limits.{most_of_a_kind}
 use Rattle.base.specs.Buffers.{zero_from}
 use Rattle.base.proofs.Buffers.{zero_from-same}
 use Rattle.op.specs.Words.{word, parts}
@@ -33,7 +33,7 @@ pub record Unrefused (used target_count : ℕ) (ops spans targets functions work
   pub in_ops : used ≤ length ops
   pub in_spans : used ≤ length spans
   pub in_targets : target_count ≤ length targets
-  pub few : used ≤ most_of_akind
+  pub few : used ≤ most_of_a_kind
   pub room : used + 1 ≤ length work
   pub ops_are_within : ops_within used (take used ops) ≡ true
   pub targets_within : all_within used (take target_count targets) ≡ true
@@ -41,12 +41,12 @@ pub record Unrefused (used target_count : ℕ) (ops spans targets functions work
 
 -- the counts that passed
 counted : (used target_count : ℕ) (ops spans targets : List ℕ) → counts_ok used target_count ops spans targets ≡ true
-    → (used ≤ length ops) × (used ≤ length spans) × (target_count ≤ length targets) × (used ≤ most_of_akind)
+    → (used ≤ length ops) × (used ≤ length spans) × (target_count ≤ length targets) × (used ≤ most_of_a_kind)
 counted used target_count ops spans targets e =
-    let a = both-pass (leb used (length ops)) (pick (leb used (length spans)) (pick (leb target_count (length targets)) (leb used most_of_akind) false) false) e in
-    let b = both-pass (leb used (length spans)) (pick (leb target_count (length targets)) (leb used most_of_akind) false) a.1 in
-    let d = both-pass (leb target_count (length targets)) (leb used most_of_akind) b.1 in
-    (leb-true used (length ops) a.0, leb-true used (length spans) b.0, leb-true target_count (length targets) d.0, leb-true used most_of_akind d.1)
+    let a = both-pass (leb used (length ops)) (pick (leb used (length spans)) (pick (leb target_count (length targets)) (leb used most_of_a_kind) false) false) e in
+    let b = both-pass (leb used (length spans)) (pick (leb target_count (length targets)) (leb used most_of_a_kind) false) a.1 in
+    let d = both-pass (leb target_count (length targets)) (leb used most_of_a_kind) b.1 in
+    (leb-true used (length ops) a.0, leb-true used (length spans) b.0, leb-true target_count (length targets) d.0, leb-true used most_of_a_kind d.1)
 
 -- what follows where nothing is refused
 pub unrefused : (used target_count : ℕ) (ops spans targets functions work : List ℕ) → refusal used target_count ops spans targets functions work ≡ 0
@@ -117,7 +117,7 @@ nothing-refused {used} {target_count} {ops} {spans} {targets} {functions} {work}
       le-leb used (length ops) u.in_ops,
       le-leb used (length spans) u.in_spans,
       le-leb target_count (length targets) u.in_targets,
-      le-leb used most_of_akind u.few,
+      le-leb used most_of_a_kind u.few,
       le-leb (used + 1) (length work) u.room,
       u.ops_are_within,
       u.targets_within,

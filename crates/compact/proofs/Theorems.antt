@@ -11,7 +11,7 @@ use lib.Dec.{eqb}
 use lib.ListN.{length, get_or, take, drop, length-map, length-take}
 use lib.Seq.{sets, take_at, get_or_at, length-sets, length-take-le}
 use Rattle.base.specs.Choice.{pick}
-use Rattle.base.specs.Limits.{most_of_akind}
+use Rattle.base.specs.Limits.{most_of_a_kind}
 use Rattle.base.specs.Buffers.{zero_from}
 use Rattle.base.proofs.Numbers.{lt?, pick_true, pick-both, pick_case}
 use Rattle.base.proofs.Lists.{sets-front, sets_self}
@@ -64,7 +64,7 @@ resent-allowed ops x k =
     (λ h. rw (parts-aimed (sent ops (target_of (parts x))) x) (aimed-allowed (sent ops (target_of (parts x))) x h k))
     (λ h. k)
 
-resent-within : (ops : List ℕ) (n x : ℕ) → n ≡ length (kept_ops ops) → length ops ≤ most_of_akind → op_within n (resent ops x) ≡ true
+resent-within : (ops : List ℕ) (n x : ℕ) → n ≡ length (kept_ops ops) → length ops ≤ most_of_a_kind → op_within n (resent ops x) ≡ true
 resent-within ops n x e l =
     let pc = sent ops (target_of (parts x)) in
     let m : pc ≤ n = omega (arith, sent_most ops (target_of (parts x))) in
@@ -129,7 +129,7 @@ module _ (ops : List ℕ) where
   unfolding compact_ops
   left_words h = every_map words words (resent ops) (resent-allowed ops) (kept_ops ops) (every-kept words ops h)
 
-  left_pcs : (targets functions : List ℕ) → length ops ≤ most_of_akind
+  left_pcs : (targets functions : List ℕ) → length ops ≤ most_of_a_kind
       → pcs_ok (length (compact_ops ops)) (compact_ops ops) (compact_targets ops targets) (compact_functions ops functions) ≡ true
   unfolding compact_ops compact_targets compact_functions
   left_pcs targets functions l =
@@ -240,7 +240,7 @@ module _ (used m : ℕ) (ops spans targets functions work : List ℕ) (u : Unref
   unfolding compact_targets
   targets_many = length-map (take m targets) (sent (take used ops)) ∙ length-take-le m targets u.in_targets
 
-  few_left : length (take used ops) ≤ most_of_akind
+  few_left : length (take used ops) ≤ most_of_a_kind
   few_left = omega (arith, u.few, length-take used ops)
 
   ops-front : take n (sets ops 0 (compact_ops (take used ops))) ≡ compact_ops (take used ops)

@@ -2,7 +2,7 @@
 use Rattle.std.specs.Prelude.{ℕ, ◌+◌, Bool, true, false, List, [], ◌∷◌, leb, eqb, length, take}
 use Rattle.std.proofs.lemmas.List.Edits.{sets}
 use Rattle.base.specs.Choice.{pick}
-use Rattle.base.specs.Limits.{most_of_akind}
+use Rattle.base.specs.Limits.{most_of_a_kind}
 use Rattle.base.specs.Buffers.{zero_from}
 use Rattle.op.specs.Words.{parts, allowed}
 use Rattle.op.specs.Targets.{target_of}
@@ -34,7 +34,7 @@ all_ops (x ∷ xs) = pick (allowed (parts x)) (all_ops xs) false
 -- 2: a used length beyond its buffer, or more ops than a program may have
 abbrev pub counts_ok : ℕ → ℕ → List ℕ → List ℕ → List ℕ → Bool
 counts_ok used target_count ops spans targets =
-    pick (leb used (length ops)) (pick (leb used (length spans)) (pick (leb target_count (length targets)) (leb used most_of_akind) false) false) false
+    pick (leb used (length ops)) (pick (leb used (length spans)) (pick (leb target_count (length targets)) (leb used most_of_a_kind) false) false) false
 
 -- 9: the work room is a word for each pc, the end among them
 abbrev pub room_ok : ℕ → List ℕ → Bool

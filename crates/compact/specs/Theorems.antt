@@ -1,6 +1,6 @@
 -- What is proved of compaction, whatever the ops: the statements, whose proofs are in proofs/Theorems.antt.
 use Rattle.std.specs.Prelude.{◌≡◌, ◌≢◌, true, List, ℕ, ◌+◌, ◌≤◌, ◌<◌, length, get_or}
-use Rattle.base.specs.Limits.{most_of_akind}
+use Rattle.base.specs.Limits.{most_of_a_kind}
 use Rattle.compact.specs.Compaction.{kept_ops, kept_spans, sent, resent, compact_ops, compact_targets, compact_functions}
 use Rattle.compact.specs.Entry.{pcs_ok, Outcome, outcome_of}
 
@@ -42,7 +42,7 @@ NoNop =
 abbrev pub CompactTwice : Type 0
 CompactTwice =
     (ops spans targets functions : List ℕ)
-    → length ops ≤ most_of_akind
+    → length ops ≤ most_of_a_kind
     → length spans ≡ length ops
     → Unchanged (compact_ops ops) (kept_spans ops spans) (compact_targets ops targets) (compact_functions ops functions)
 

@@ -1,14 +1,16 @@
 // Nop compaction.
+#![tactic(auto)]
+
 ghost use Rattle.std.specs.Prelude.{◌≡◌, true, map, ◌+◌, ◌≤◌, ◌<◌, length, take};
 ghost use Rattle.std.proofs.lemmas.List.Edits.{sets};
 ghost use Rattle.base.specs.Choice.{pick};
-ghost use Rattle.base.specs.Limits.{most_of_akind};
+ghost use Rattle.base.specs.Limits.{most_of_a_kind};
 ghost use Rattle.op.specs.Targets.{is_jump, is_entry};
 ghost use Rattle.compact.specs.Compaction.{is_nop};
 ghost use Rattle.compact.specs.Entry.{all_ops, counts_ok, ops_within, all_within, starts_within, pcs_ok, refusal, outcome, outcome_of};
 ghost use Rattle.compact.specs.Steps.{refused_by, op_within, start_within, sent_by, resent_by, restarted_by, Remap, Down, Stripped};
 
-#[derive(Drop)]
+#[derive(Clone, Copy)]
 pub enum Compacted {
     Done(usize),
     BadWord,
@@ -171,7 +173,7 @@ fn kept(x: u64) -> u32
 
 // Where each pc is sent, the end's too.
 fn remap(ops: &[u64], used: usize, work: &mut [u32])
-    requires { (used ≤ length ops.now) × (used + 1 ≤ length work.old) × (used ≤ most_of_akind) }
+    requires { (used ≤ length ops.now) × (used + 1 ≤ length work.old) × (used ≤ most_of_a_kind) }
     ensures { Remap (take used ops.now) work.new }
 {
     let mut next = 0;

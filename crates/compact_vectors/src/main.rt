@@ -3,6 +3,7 @@
 // after: the number of ops, their words, low half first, their spans; the number of entries of switch tables, these; the number of words of
 // the function table, these, low half first. A program is compacted in buffers that it fills exactly, and once more where that left it.
 // Then programs that are refused, one line each with document 01's number.
+#![tactic(auto)]
 ghost use Rattle.std.specs.Prelude.{◌≡◌, ◌+◌, ◌*◌, ◌≤◌, ◌<◌, length};
 ghost use Rattle.compact.specs.Entry.{number_for, used_for};
 
@@ -21,7 +22,7 @@ const FUNCTIONS_AT: usize = 204800;
 const END: usize = 204928;
 
 // How much there is of each kind in a program, and whether all of it is in the text.
-#[derive(Drop)]
+#[derive(Clone, Copy)]
 struct Program {
     ops: u32,
     entries: u32,
@@ -30,7 +31,7 @@ struct Program {
 }
 
 // How much of each buffer is lent to a call, and the used lengths.
-#[derive(Drop)]
+#[derive(Clone, Copy)]
 struct Lent {
     ops: usize,
     spans: usize,
@@ -42,14 +43,14 @@ struct Lent {
 }
 
 // Document 01's number, and the new used length.
-#[derive(Drop)]
+#[derive(Clone, Copy)]
 struct Answer {
     number: u32,
     used: usize,
 }
 
 // What came of a program: how many ops it has, whether all is as the Rust has it, and whether it was there.
-#[derive(Drop)]
+#[derive(Clone, Copy)]
 struct Replayed {
     ops: u32,
     ok: bool,

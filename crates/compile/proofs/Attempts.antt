@@ -9,7 +9,7 @@ use lib.Dec.{leb, ltb, eqb}
 use lib.ListN.{length, get_or, take, drop, length-append, length-take, length-drop, length-map}
 use lib.Seq.{sets, length-sets, take_at, drop_at, take-append-le, drop-append-le}
 use Rattle.base.specs.Choice.{pick}
-use Rattle.base.specs.Limits.{most_of_akind}
+use Rattle.base.specs.Limits.{most_of_a_kind}
 use Rattle.base.specs.Buffers.{zero_from}
 use Rattle.base.specs.Emission.{Out}
 use Rattle.base.proofs.Lists.{sets-front}
@@ -95,15 +95,15 @@ record Uses (b : Buffers) (u : Used) : Type 0 where
 uses : (b : Buffers) (u : Used) → used_ok b u ≡ true → Uses b u
 unfolding used_ok
 uses b u e =
-    let p = both-parts (both (leb (1 * u.ops) (length b.ops)) (leb u.ops most_of_akind)) _ e in
+    let p = both-parts (both (leb (1 * u.ops) (length b.ops)) (leb u.ops most_of_a_kind)) _ e in
     let s =
     seven_parts
-    (both (leb (1 * u.ops) (length b.spans)) (leb u.ops most_of_akind))
-    (both (leb (2 * u.globals) (length b.globals)) (leb u.globals most_of_akind))
-    (both (leb (1 * u.builtins) (length b.builtins)) (leb u.builtins most_of_akind))
-    (both (leb (3 * u.switches) (length b.switches)) (leb u.switches most_of_akind))
+    (both (leb (1 * u.ops) (length b.spans)) (leb u.ops most_of_a_kind))
+    (both (leb (2 * u.globals) (length b.globals)) (leb u.globals most_of_a_kind))
+    (both (leb (1 * u.builtins) (length b.builtins)) (leb u.builtins most_of_a_kind))
+    (both (leb (3 * u.switches) (length b.switches)) (leb u.switches most_of_a_kind))
     (both (leb (1 * u.targets) (length b.targets)) (ltb u.targets 4294967296))
-    (both (leb (5 * u.lookups) (length b.lookups)) (leb u.lookups most_of_akind))
+    (both (leb (5 * u.lookups) (length b.lookups)) (leb u.lookups most_of_a_kind))
     (both (leb (2 * u.values) (length b.values)) (ltb u.values 4294967296))
     p.1 in
     let t = both-parts (leb (1 * u.targets) (length b.targets)) _ s.fifth in
@@ -163,7 +163,7 @@ module _ (n : ℕ) (most : n ≤ 64) (ws : List ℕ) (u : Used) (b : Buffers) (w
     unfolding entry_ok
     entry_there z =
         let t = (passed (entry_ok ws b) 0 9 (omega arith) (none_before p.number _ (sym entered ∙ z)).1).0 in
-        let h = ltb-true (function_id ws) (min (length b.functions) most_of_akind) (both-parts (leb (labels_for ws) (length b.labels)) _ t).1 in
+        let h = ltb-true (function_id ws) (min (length b.functions) most_of_a_kind) (both-parts (leb (labels_for ws) (length b.labels)) _ t).1 in
         omega arith
 
     pub lists_ready : k ≡ 0 → ListsReady ws places' u (lists_of b)

@@ -8,7 +8,7 @@ use native.Mathlib.Omega.{arith}
 use borrow.Author.Tests.{leb-true, eq-eqb, ne_eqb}
 use lib.Dec.{leb, eqb}
 use Rattle.base.specs.Choice.{pick}
-use Rattle.base.specs.Limits.{most_of_akind}
+use Rattle.base.specs.Limits.{most_of_a_kind}
 use Rattle.base.proofs.Numbers.{lt?, same?}
 use Rattle.input.specs.Forms.{both}
 use Rattle.input.proofs.Chain.{both-parts}
@@ -73,15 +73,15 @@ lowest true true s p a l o x e q y z h i j k =
     (same? x 0)
 
 -- used records find room in words: of a kind at most 65,534
-pub room_fits : (words used size : ℕ) → 1 ≤ words → both (leb (words * used) size) (leb used most_of_akind) ≡ true
-    → words * used ≤ words * min (size / words) most_of_akind
+pub room_fits : (words used size : ℕ) → 1 ≤ words → both (leb (words * used) size) (leb used most_of_a_kind) ≡ true
+    → words * used ≤ words * min (size / words) most_of_a_kind
 room_fits words used size h e =
     let p = both-parts (leb (words * used) size) _ e in
     let a = leb-true (words * used) size p.0 in
-    let few = leb-true used most_of_akind p.1 in
+    let few = leb-true used most_of_a_kind p.1 in
     ⊎_elim
     (λ (q : size / words < used).
     let b : size < used * words = (div-lt_iff_lt-mul {k = words} (omega arith)).0 q in
     absurd (omega (arith, mul_comm words used)))
-    (λ (q : used ≤ size / words). let m : used ≤ min (size / words) most_of_akind = omega arith in mul-le-mul_left words m)
+    (λ (q : used ≤ size / words). let m : used ≤ min (size / words) most_of_a_kind = omega arith in mul-le-mul_left words m)
     (lt? (size / words) used)

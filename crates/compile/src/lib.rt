@@ -1,4 +1,5 @@
 // Compiling one function.
+#![tactic(auto)]
 ghost use Rattle.std.specs.Prelude.{◌≡◌, ◌≤◌, eqb};
 ghost use Rattle.base.specs.Choice.{pick};
 ghost use Rattle.place.specs.Registers.{registers};
@@ -9,7 +10,7 @@ ghost use Rattle.compile.specs.Compile.{compiled};
 use first_checks::Lengths;
 use lists::{Tried, Used};
 
-#[derive(Drop)]
+#[derive(Clone, Copy)]
 pub enum Answer {
     Done,
     BadWord,
@@ -23,7 +24,7 @@ pub enum Answer {
     NoRoom,
 }
 
-#[derive(Drop)]
+#[derive(Clone, Copy)]
 pub struct Compiled {
     pub answer: Answer,
     pub used: Used,

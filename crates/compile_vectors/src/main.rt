@@ -7,8 +7,10 @@ ghost use Rattle.std.specs.Prelude.{◌≡◌, ◌≤◌, ◌<◌, length};
 ghost use Rattle.compile_vectors.specs.Lending.{Fits, WholeLists, WholeTables};
 
 use compile::Compiled;
-use libc::STDOUT_FILENO;
 use lists::Used;
+
+// The number of standard output.
+const STDOUT_FILENO: i32 = 1;
 
 // Sums and products are of numbers up to this.
 const MOST: usize = 1000000;
@@ -34,7 +36,7 @@ const NO_ROOM: usize = 9;
 const TABLE: usize = 4;
 
 // A number for each buffer.
-#[derive(Drop)]
+#[derive(Clone, Copy)]
 struct PerBuffer {
     functions: usize,
     ops: usize,
@@ -53,7 +55,7 @@ struct PerBuffer {
 
 // A program of the text: how many strings it begins with, whether its functions are compiled in little room too, how many words its function table
 // has, how many functions there are, and the words at which the lists, the function table after them and the functions start.
-#[derive(Drop)]
+#[derive(Clone, Copy)]
 struct Program {
     strings: usize,
     tried: bool,
@@ -67,7 +69,7 @@ struct Program {
 // A function of the text: its number in the table, whether it is marked unused, how many words it has; how many words of the function table the
 // others need, and how many it; its values and labels, none if it is refused; the number that comes back, how many map words it has, the used
 // lengths before and after it, and where its words, its map words and the next function start.
-#[derive(Drop)]
+#[derive(Clone, Copy)]
 struct Function {
     id: usize,
     unused: bool,
@@ -86,7 +88,7 @@ struct Function {
 }
 
 // The buffers of the function table, the code and the lists, and those of the tables.
-#[derive(Drop)]
+#[derive(Clone, Copy)]
 struct ListBuffers {
     functions: [u64; 64],
     ops: [u64; 2048],
@@ -95,7 +97,7 @@ struct ListBuffers {
     builtins: [u32; 32],
 }
 
-#[derive(Drop)]
+#[derive(Clone, Copy)]
 struct TableBuffers {
     switches: [u64; 64],
     targets: [u32; 4352],
@@ -105,7 +107,7 @@ struct TableBuffers {
 
 // How many functions were compiled and how many of them differ; how many calls in exactly enough room and in one word less, and how many of them
 // differ.
-#[derive(Drop)]
+#[derive(Clone, Copy)]
 struct Tally {
     functions: usize,
     ops: usize,

@@ -20,7 +20,7 @@ use Rattle.machine.specs.Machine.{State, World, run_words}
 use Rattle.machine.specs.Calls.{function, Keeps}
 use Rattle.moves.specs.Moves.{swap_remove, turn_ops, turn_sources, turn_destinations, turns, moves, move_words}
 use Rattle.input.specs.Layout.{head_field, value_field, block_field, instr_field, edge_field, pool_at, list_at}
-use Rattle.input.specs.Records as in_words_lem
+use Rattle.input.specs.Records as in_words
 use Rattle.input.specs.Records.{term_kind}
 use Rattle.input.proofs.Chain.{both-parts}
 use Rattle.assign.specs.Walk.{assigned}
@@ -128,7 +128,7 @@ none_fetched : {n : ℕ} {out : Out} {p reg pc at : ℕ} → Fetched n out p reg
 none_fetched (there h e) g = refl
 none_fetched (loaded h s e) g = absurd (omega arith)
 
-condition_there : {n : ℕ} {env : Env} {out : Out} {b pc at : ℕ} {jump : Op} → BranchOp n env out b pc at jump → term_kind env.ws b ≡ in_words_lem.branch
+condition_there : {n : ℕ} {env : Env} {out : Out} {b pc at : ℕ} {jump : Op} → BranchOp n env out b pc at jump → term_kind env.ws b ≡ in_words.branch
     → term_place env.ws env.places b 0 < slots_from → at ≡ pc
 condition_there (on_false c k f) e h = none_fetched f h
 condition_there (on_other l k f) e h = absurd (omega arith)

@@ -9,7 +9,7 @@ use borrow.Author.Tests.{eq-eqb, eqb-true, eqb-false, leb-true, ltb-true}
 use lib.Dec.{leb, eqb}
 use lib.ListN.{length}
 use Rattle.base.specs.Choice.{pick}
-use Rattle.base.specs.Limits.{most_of_akind}
+use Rattle.base.specs.Limits.{most_of_a_kind}
 use Rattle.base.proofs.Numbers.{pick_true}
 use Rattle.base.proofs.Numbers as test
 use Rattle.input.specs.Layout.{function_id, values}
@@ -144,7 +144,7 @@ fits_entry : (ws : List ℕ) (b : Buffers) → entry_ok ws b ≡ true → (label
 unfolding entry_ok
 fits_entry ws b e =
     let p = both-parts (leb (labels_for ws) (length b.labels)) _ e in
-    (leb-true (labels_for ws) (length b.labels) p.0, omega (arith, ltb-true (function_id ws) (min (length b.functions) most_of_akind) p.1))
+    (leb-true (labels_for ws) (length b.labels) p.0, omega (arith, ltb-true (function_id ws) (min (length b.functions) most_of_a_kind) p.1))
 
 module _ (n : ℕ) (ws : List ℕ) (b : Buffers) (u : Used) where
   none_refused : (compiled n ws b u).number ≡ 0 → refusal n ws b u ≡ 0

@@ -1,7 +1,11 @@
 // Prints document 01's examples as the code answers them. proofs/Examples.antt proves those marked * there, about the definitions.
-use libc::STDOUT_FILENO;
+#![tactic(auto)]
+
 use moves_entry::{Columns, Emitted};
 use op::Op;
+
+// The number of standard output.
+const STDOUT_FILENO: i32 = 1;
 
 fn write(text: &[u8]) {
     io::write_all(STDOUT_FILENO, text);

@@ -1,6 +1,6 @@
 -- What is judged before anything is written: used lengths, labels and an entry in the function table.
 use Rattle.std.specs.Prelude.{◌≡◌, ℕ, min, Bool, List, leb, ltb, length}
-use Rattle.base.specs.Limits.{most_of_akind}
+use Rattle.base.specs.Limits.{most_of_a_kind}
 use Rattle.input.specs.Layout.{function_id}
 use Rattle.input.specs.Forms.{both}
 use Rattle.lists.specs.declared.Used.{Used}
@@ -23,7 +23,7 @@ used_ok b u =
 -- 9: more labels than are lent, or no entry in the function table
 unfoldable pub entry_ok : List ℕ → Buffers → Bool
 entry_ok ws b =
-    both (leb (labels_for ws) (length b.labels)) (ltb (function_id ws) (min (length b.functions) most_of_akind))
+    both (leb (labels_for ws) (length b.labels)) (ltb (function_id ws) (min (length b.functions) most_of_a_kind))
 
 -- the lengths of the buffers, as the code takes them
 pub record Sized (n : Lengths) (b : Buffers) : Type 0 where

@@ -1,4 +1,5 @@
 // What compiling judges before it writes anything: words, used lengths, refusals 1 to 7, labels and an entry in the function table.
+#![tactic(auto)]
 ghost use Rattle.std.specs.Prelude.{◌≡◌, eqb};
 ghost use Rattle.base.specs.Choice.{pick};
 ghost use Rattle.place.specs.Registers.{registers};
@@ -13,7 +14,7 @@ use lists::Used;
 const MOST: usize = 65534;
 
 // The lengths of the lent buffers.
-#[derive(Drop)]
+#[derive(Clone, Copy)]
 pub struct Lengths {
     pub ops: usize,
     pub spans: usize,

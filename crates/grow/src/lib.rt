@@ -1,9 +1,10 @@
 // Lists that grow in lent buffers.
+#![tactic(auto)]
 ghost use Rattle.std.specs.Prelude.{◌≡◌, [], ◌∷◌, ◌++◌, set};
 ghost use Rattle.grow.specs.Growing.{Grows};
 
 // Where the next number goes, how many there is room for, and whether one found none.
-#[derive(Drop)]
+#[derive(Clone, Copy)]
 pub struct End {
     pub at: usize,
     pub room: usize,

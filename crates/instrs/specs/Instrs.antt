@@ -3,7 +3,7 @@ use Rattle.std.specs.Prelude.{ℕ, zero, suc, ◌+◌, ◌-◌, List, eqb, get_o
 use Rattle.base.specs.Choice.{pick}
 use Rattle.base.specs.Emission.{Out, at_span}
 use Rattle.input.specs.Layout.{pool_at}
-use Rattle.input.specs.Records as in_words_lem
+use Rattle.input.specs.Records as in_words
 use Rattle.input.specs.Records.{instr_kind, instr_span, destination, operands_at, operands_of, instr_x, instr_y, instr_z, constant_kind, payload_of}
 use Rattle.lower.specs.Operands.{place_at}
 use Rattle.lower.specs.Instructions.{lower_bin, lower_bin_imm, lower_cast, lower_alloc, lower_store, lower_load, lower_addr_of, lower_lookup, lower_assert, lower_const}
@@ -34,22 +34,22 @@ operand_place ws places i k = place_at places (pool_at ws (operands_at ws i + k)
 -- An instruction by its kind. Those that read nothing of the program: memory, ..
 unfoldable pub memory_ops : ℕ → List ℕ → List ℕ → ℕ → Out → Out
 memory_ops n ws places i =
-    pick (eqb (instr_kind ws i) in_words_lem.alloc) (lower_alloc n (dest_place ws places i) (instr_x ws i) (instr_y ws i) (instr_z ws i))
-    (pick (eqb (instr_kind ws i) in_words_lem.store) (lower_store n (operand_place ws places i 0) (operand_place ws places i 1) (instr_y ws i))
-    (pick (eqb (instr_kind ws i) in_words_lem.load) (lower_load n (dest_place ws places i) (operand_place ws places i 0) (instr_y ws i))
-    (pick (eqb (instr_kind ws i) in_words_lem.addr_of) (lower_addr_of n (dest_place ws places i) (operand_place ws places i 0) (instr_y ws i))
+    pick (eqb (instr_kind ws i) in_words.alloc) (lower_alloc n (dest_place ws places i) (instr_x ws i) (instr_y ws i) (instr_z ws i))
+    (pick (eqb (instr_kind ws i) in_words.store) (lower_store n (operand_place ws places i 0) (operand_place ws places i 1) (instr_y ws i))
+    (pick (eqb (instr_kind ws i) in_words.load) (lower_load n (dest_place ws places i) (operand_place ws places i 0) (instr_y ws i))
+    (pick (eqb (instr_kind ws i) in_words.addr_of) (lower_addr_of n (dest_place ws places i) (operand_place ws places i 0) (instr_y ws i))
     (λ o. o))))
 
 -- .. and operators, casts and Assert. A Noop gives nothing.
 unfoldable pub compute_ops : ℕ → List ℕ → List ℕ → ℕ → Out → Out
 compute_ops n ws places i =
-    pick (eqb (instr_kind ws i) in_words_lem.bin)
+    pick (eqb (instr_kind ws i) in_words.bin)
     (lower_bin n (instr_x ws i) (dest_place ws places i) (operand_place ws places i 0) (operand_place ws places i 1))
-    (pick (eqb (instr_kind ws i) in_words_lem.bin_imm)
+    (pick (eqb (instr_kind ws i) in_words.bin_imm)
     (lower_bin_imm n (instr_x ws i) (dest_place ws places i) (operand_place ws places i 0) (instr_y ws i))
-    (pick (eqb (instr_kind ws i) in_words_lem.cast)
+    (pick (eqb (instr_kind ws i) in_words.cast)
     (lower_cast n (instr_x ws i) (instr_y ws i) (dest_place ws places i) (operand_place ws places i 0))
-    (pick (eqb (instr_kind ws i) in_words_lem.assert) (lower_assert n (dest_place ws places i) (operand_place ws places i 0))
+    (pick (eqb (instr_kind ws i) in_words.assert) (lower_assert n (dest_place ws places i) (operand_place ws places i 0))
     (memory_ops n ws places i))))
 
 -- LoadConst of constant c, a global by its number
@@ -69,21 +69,21 @@ sys_ops n ws places noted builtins i =
 -- those that read the program, and the rest; `table` is the number of the next lookup table
 unfoldable pub instr_ops : ℕ → Env → ℕ → ℕ → Out → Out
 instr_ops n env table i =
-    pick (eqb (instr_kind env.ws i) in_words_lem.load_const) (load_const_ops n env.ws env.places env.globals i (instr_x env.ws i))
-    (pick (eqb (instr_kind env.ws i) in_words_lem.call) (call_ops n env.ws env.places env.noted env.functions i)
-    (pick (eqb (instr_kind env.ws i) in_words_lem.sys) (sys_ops n env.ws env.places env.noted env.builtins i)
-    (pick (eqb (instr_kind env.ws i) in_words_lem.lookup)
+    pick (eqb (instr_kind env.ws i) in_words.load_const) (load_const_ops n env.ws env.places env.globals i (instr_x env.ws i))
+    (pick (eqb (instr_kind env.ws i) in_words.call) (call_ops n env.ws env.places env.noted env.functions i)
+    (pick (eqb (instr_kind env.ws i) in_words.sys) (sys_ops n env.ws env.places env.noted env.builtins i)
+    (pick (eqb (instr_kind env.ws i) in_words.lookup)
     (lower_lookup n (dest_place env.ws env.places i) (operand_place env.ws env.places i 0) table)
     (compute_ops n env.ws env.places i))))
 
 -- how many of k instructions from i on are a Lookup
 unfoldable pub lookups_in : List ℕ → ℕ → ℕ → ℕ
 lookups_in ws i zero = 0
-lookups_in ws i (suc k) = pick (eqb (instr_kind ws i) in_words_lem.lookup) 1 0 + lookups_in ws (i + 1) k
+lookups_in ws i (suc k) = pick (eqb (instr_kind ws i) in_words.lookup) 1 0 + lookups_in ws (i + 1) k
 
 -- k instructions from i on, each with its span
 unfoldable pub instrs_ops : ℕ → Env → ℕ → ℕ → ℕ → Out → Out
 instrs_ops n env table i zero o = o
 instrs_ops n env table i (suc k) o =
-    instrs_ops n env (table + pick (eqb (instr_kind env.ws i) in_words_lem.lookup) 1 0) (i + 1) k
+    instrs_ops n env (table + pick (eqb (instr_kind env.ws i) in_words.lookup) 1 0) (i + 1) k
     (instr_ops n env table i (at_span (instr_span env.ws i) o))

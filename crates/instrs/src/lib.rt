@@ -1,4 +1,6 @@
 // The instructions that read the program: LoadConst, Call, Sys.
+#![tactic(auto)]
+
 ghost use Rattle.std.specs.Prelude.{◌≡◌, List, ℕ, ◌+◌, ◌*◌, ◌-◌, ◌≤◌, ◌<◌, length, take, get_or};
 ghost use Rattle.base.specs.Lent.{Lowers};
 ghost use Rattle.place.specs.Registers.{registers};

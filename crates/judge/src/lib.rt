@@ -1,4 +1,5 @@
 // Judging a function without compiling it: refusals 1 to 7.
+#![tactic(auto)]
 ghost use Rattle.std.specs.Prelude.{◌≡◌, ◌⊎◌, true, List, ℕ, ◌+◌, ◌≤◌, ◌<◌, length, get_or};
 ghost use Rattle.base.specs.Limits.{most_rows};
 ghost use Rattle.place.specs.Registers.{registers};
@@ -9,7 +10,7 @@ ghost use Rattle.fit.specs.Tabled.{Tabled, marks, marked};
 ghost use Rattle.judge.specs.Judged.{verdict_number, unfit};
 ghost use Rattle.judge.specs.Passes.{row_ok, Placed, unfit_rows};
 
-#[derive(Drop)]
+#[derive(Clone, Copy)]
 pub enum Verdict {
     Fit,
     BadWord,

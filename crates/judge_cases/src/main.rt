@@ -12,7 +12,7 @@ use lists::Used;
 
 // How many cases there were, and of how many the verdict differs; how many calls of the compiler, how many with a used length too many, and how
 // many of both differ.
-#[derive(Drop)]
+#[derive(Clone, Copy)]
 struct Tally {
     cases: u32,
     differ: u32,
@@ -22,7 +22,7 @@ struct Tally {
 }
 
 // Not whole where the file ends too early, or a case is larger than the buffers.
-#[derive(Drop)]
+#[derive(Clone, Copy)]
 struct Replayed {
     whole: bool,
     tally: Tally,

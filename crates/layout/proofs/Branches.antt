@@ -2,7 +2,7 @@
 use mathlib.Core.Path.{◌≡◌, sym, ap, ◌∙◌}
 use mathlib.Core.Logic.{◌≢◌, ⊎_elim}
 use mathlib.Core.Bool.{true, false}
-use Prim.Native.Nat.{ℕ, ◌+◌, ◌-◌, ◌≤◌, ◌<◌}
+use Prim.Native.Nat.{ℕ, ◌+◌, ◌≤◌, ◌<◌}
 use mathlib.Core.List.{List}
 use native.Mathlib.Nat.{add-zero}
 use native.Mathlib.Omega.{arith}
@@ -14,7 +14,7 @@ use Rattle.op.specs.Words.{word}
 use Rattle.op.specs.Ops as op
 use Rattle.op.specs.Targets.{aimed}
 use Rattle.input.specs.Layout.{blocks}
-use Rattle.input.specs.Records as in_words_lem
+use Rattle.input.specs.Records as in_words
 use Rattle.input.specs.Records.{term_kind, first_edge, term_y, edge_target}
 use Rattle.lower.specs.Operands.{operand_reg, fetched}
 use Rattle.edges.specs.Edges.{has_moves, nowhere, edge, jump_at, branch}
@@ -134,41 +134,41 @@ module _ (n : ℕ) (ws places : List ℕ) (next b : ℕ) (q : Out) where
   abbrev second : ℕ
   second = term_place ws places b 1
 
-  kind_false : term_kind ws b ≡ in_words_lem.branch
+  kind_false : term_kind ws b ≡ in_words.branch
       → branch_ops n ws places next b q ≡ branch n ws places (op.jmp_f (operand_reg n first q.last) 0) label next (first_edge ws b) (fetched n first q)
   unfolding branch_ops
   kind_false k = rw k
 
-  kind_other : term_kind ws b ≡ in_words_lem.branch_cmp_imm
+  kind_other : term_kind ws b ≡ in_words.branch_cmp_imm
       → branch_ops n ws places next b q
       ≡ branch n ws places (op.jmp_ne_i (operand_reg n first q.last) (term_y ws b) 0) label next (first_edge ws b) (fetched n first q)
   unfolding branch_ops
   kind_other k = rw k
 
-  kind_unequal : term_kind ws b ≡ in_words_lem.branch_cmp
+  kind_unequal : term_kind ws b ≡ in_words.branch_cmp
       → branch_ops n ws places next b q
-      ≡ branch n ws places (op.jmp_sne (operand_reg n first q.last) (operand_reg n second (fetched n first q).last) 0) label next (first_edge ws b)
+      ≡ branch n ws places (op.jmp_s_ne (operand_reg n first q.last) (operand_reg n second (fetched n first q).last) 0) label next (first_edge ws b)
       (fetched n second (fetched n first q))
   unfolding branch_ops
   kind_unequal k = rw k
 
   -- all add ops, and bind the block's second label alone
-  pub branches_add : {P : ℕ → Type 0} → in_words_lem.branch ≤ term_kind ws b → term_kind ws b ≤ in_words_lem.branch_cmp → ((l : ℕ) → P l → l ≢ blocks ws + b)
+  pub branches_add : {P : ℕ → Type 0} → in_words.branch ≤ term_kind ws b → term_kind ws b ≤ in_words.branch_cmp → ((l : ℕ) → P l → l ≢ blocks ws + b)
       → Adds P q (branch_ops n ws places next b q)
   branches_add lo hi f =
       ⊎_elim
-      (λ (k : term_kind ws b ≡ in_words_lem.branch).
+      (λ (k : term_kind ws b ≡ in_words.branch).
       rw (kind_false k) (adds_then (adds_any (by-fetch n first (stays q)).adds) (branch_adds n ws places _ label next (first_edge ws b) (fetched n first q) f)))
-      (λ (k : term_kind ws b ≢ in_words_lem.branch).
+      (λ (k : term_kind ws b ≢ in_words.branch).
       ⊎_elim
-      (λ (k' : term_kind ws b ≡ in_words_lem.branch_cmp_imm).
+      (λ (k' : term_kind ws b ≡ in_words.branch_cmp_imm).
       rw (kind_other k') (adds_then (adds_any (by-fetch n first (stays q)).adds) (branch_adds n ws places _ label next (first_edge ws b) (fetched n first q) f)))
-      (λ (k' : term_kind ws b ≢ in_words_lem.branch_cmp_imm).
+      (λ (k' : term_kind ws b ≢ in_words.branch_cmp_imm).
       rw (kind_unequal (omega (arith, k, k')))
       (adds_then (adds_any (by-fetch n second (by-fetch n first (stays q))).adds)
       (branch_adds n ws places _ label next (first_edge ws b) (fetched n second (fetched n first q)) f)))
-      (same? (term_kind ws b) in_words_lem.branch_cmp_imm))
-      (same? (term_kind ws b) in_words_lem.branch)
+      (same? (term_kind ws b) in_words.branch_cmp_imm))
+      (same? (term_kind ws b) in_words.branch)
 
 module _ (n : ℕ) (env : Env) {from : ℕ} {B F : Out} (fin : Finished from B F) (regs-few : n ≤ 256) (regs_two : 2 ≤ n) {P : ℕ → Type 0} (next b : ℕ) (q : Out)
     (h : from ≤ length q.ops) (y : Adds P (branch_ops n env.ws env.places next b q) B) (p : P (blocks env.ws + b))
@@ -196,7 +196,7 @@ module _ (n : ℕ) (env : Env) {from : ℕ} {B F : Out} (fin : Finished from B F
         yes = r.yes;
       }
 
-  pub branch_at : in_words_lem.branch ≤ term_kind env.ws b → term_kind env.ws b ≤ in_words_lem.branch_cmp → BranchAt n env F b (length q.ops)
+  pub branch_at : in_words.branch ≤ term_kind env.ws b → term_kind env.ws b ≤ in_words.branch_cmp → BranchAt n env F b (length q.ops)
   branch_at lo hi =
       let x : ℕ = term_place env.ws env.places b 0 in
       let x' : ℕ = term_place env.ws env.places b 1 in
@@ -209,20 +209,20 @@ module _ (n : ℕ) (env : Env) {from : ℕ} {B F : Out} (fin : Finished from B F
       let m : length q.ops ≤ length f.ops = adds_few (by-fetch n x (stays q)).adds in
       let m' : length f.ops ≤ length f'.ops = adds_few (by-fetch n x' (stays f)).adds in
       ⊎_elim
-      (λ (k : term_kind env.ws b ≡ in_words_lem.branch).
+      (λ (k : term_kind env.ws b ≡ in_words.branch).
       from-op (op.jmp_f r 0) (record { low = omega arith; high = omega arith; a_fits = s; b_fits = omega arith; c_fits = omega arith }) f
       (λ z. on_false r k (fetch_at fin n x q h z)) m (kind_false n env.ws env.places next b q k))
-      (λ (k : term_kind env.ws b ≢ in_words_lem.branch).
+      (λ (k : term_kind env.ws b ≢ in_words.branch).
       ⊎_elim
-      (λ (k' : term_kind env.ws b ≡ in_words_lem.branch_cmp_imm).
+      (λ (k' : term_kind env.ws b ≡ in_words.branch_cmp_imm).
       from-op (op.jmp_ne_i r (term_y env.ws b) 0) (record { low = omega arith; high = omega arith; a_fits = s; b_fits = omega arith; c_fits = omega arith }) f
       (λ z. on_other r k' (fetch_at fin n x q h z)) m (kind_other n env.ws env.places next b q k'))
-      (λ (k' : term_kind env.ws b ≢ in_words_lem.branch_cmp_imm).
-      let k'' : term_kind env.ws b ≡ in_words_lem.branch_cmp = omega (arith, k, k') in
-      from-op (op.jmp_sne r r' 0) (record { low = omega arith; high = omega arith; a_fits = s; b_fits = s'; c_fits = omega arith }) f'
+      (λ (k' : term_kind env.ws b ≢ in_words.branch_cmp_imm).
+      let k'' : term_kind env.ws b ≡ in_words.branch_cmp = omega (arith, k, k') in
+      from-op (op.jmp_s_ne r r' 0) (record { low = omega arith; high = omega arith; a_fits = s; b_fits = s'; c_fits = omega arith }) f'
       (λ z.
       on_unequal r r' (length f.ops) k'' (fetch_at fin n x q h (adds_then (adds_any (by-fetch n x' (stays f)).adds) z))
       (fetch_at fin n x' f (omega arith) z) (slots_apart n regs-few regs_two x x' q))
       (omega arith) (kind_unequal n env.ws env.places next b q k''))
-      (same? (term_kind env.ws b) in_words_lem.branch_cmp_imm))
-      (same? (term_kind env.ws b) in_words_lem.branch)
+      (same? (term_kind env.ws b) in_words.branch_cmp_imm))
+      (same? (term_kind env.ws b) in_words.branch)

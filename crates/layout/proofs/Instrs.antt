@@ -15,7 +15,7 @@ use Rattle.place.specs.Places.{slots_from}
 use Rattle.op.specs.declared.Op.{Op}
 use Rattle.op.specs.Words.{word}
 use Rattle.op.specs.Ops as op
-use Rattle.input.specs.Records as in_words_lem
+use Rattle.input.specs.Records as in_words
 use Rattle.input.specs.Records.{instr_kind, instr_span}
 use Rattle.program.specs.Functions as table-words
 use Rattle.lower.specs.Operands.{fetched, stored, spare}
@@ -104,9 +104,9 @@ loaded_going : (kind payload global d : ℕ) → Going (const_ops kind payload g
 unfolding const_ops
 loaded_going kind payload global d =
     choose (is_global kind payload) (emits _ (goes_op 4 d 0 0 global (omega arith) refl))
-    (choose (eqb kind in_words_lem.int_const) (emits _ (goes_op 3 d 0 0 (payload % 2 ^ 32) (omega arith) refl))
-    (choose (eqb kind in_words_lem.true_const) (emits _ (goes_op 3 d 0 0 1 (omega arith) refl))
-    (choose (eqb kind in_words_lem.false_const) (emits _ (goes_op 3 d 0 0 0 (omega arith) refl)) nothing)))
+    (choose (eqb kind in_words.int_const) (emits _ (goes_op 3 d 0 0 (payload % 2 ^ 32) (omega arith) refl))
+    (choose (eqb kind in_words.true_const) (emits _ (goes_op 3 d 0 0 1 (omega arith) refl))
+    (choose (eqb kind in_words.false_const) (emits _ (goes_op 3 d 0 0 0 (omega arith) refl)) nothing)))
 
 const_going : (n dst kind payload global : ℕ) → Going (lower_const n dst kind payload global)
 unfolding lower_const
@@ -153,18 +153,18 @@ module _ (n : ℕ) (ws places : List ℕ) (i : ℕ) where
   memory_going : Going (memory_ops n ws places i)
   unfolding memory_ops
   memory_going =
-      choose (eqb (instr_kind ws i) in_words_lem.alloc) (alloc_going n _ _ _ _)
-      (choose (eqb (instr_kind ws i) in_words_lem.store) (store_going n _ _ _)
-      (choose (eqb (instr_kind ws i) in_words_lem.load) (load_going n _ _ _)
-      (choose (eqb (instr_kind ws i) in_words_lem.addr_of) (address_going n _ _ _) nothing)))
+      choose (eqb (instr_kind ws i) in_words.alloc) (alloc_going n _ _ _ _)
+      (choose (eqb (instr_kind ws i) in_words.store) (store_going n _ _ _)
+      (choose (eqb (instr_kind ws i) in_words.load) (load_going n _ _ _)
+      (choose (eqb (instr_kind ws i) in_words.addr_of) (address_going n _ _ _) nothing)))
 
   compute_going : Going (compute_ops n ws places i)
   unfolding compute_ops
   compute_going =
-      choose (eqb (instr_kind ws i) in_words_lem.bin) (bin_going n _ _ _ _)
-      (choose (eqb (instr_kind ws i) in_words_lem.bin_imm) (imm_going n _ _ _ _)
-      (choose (eqb (instr_kind ws i) in_words_lem.cast) (cast_going n _ _ _ _)
-      (choose (eqb (instr_kind ws i) in_words_lem.assert) (assert_going n _ _) memory_going)))
+      choose (eqb (instr_kind ws i) in_words.bin) (bin_going n _ _ _ _)
+      (choose (eqb (instr_kind ws i) in_words.bin_imm) (imm_going n _ _ _ _)
+      (choose (eqb (instr_kind ws i) in_words.cast) (cast_going n _ _ _ _)
+      (choose (eqb (instr_kind ws i) in_words.assert) (assert_going n _ _) memory_going)))
 
   constant_going : (globals : List ℕ) (c : ℕ) → Going (load_const_ops n ws places globals i c)
   unfolding load_const_ops
@@ -182,15 +182,15 @@ module _ (n : ℕ) (env : Env) where
   pub instr_going : (table i : ℕ) → Going (instr_ops n env table i)
   unfolding instr_ops
   instr_going table i =
-      choose (eqb (instr_kind env.ws i) in_words_lem.load_const) (constant_going n env.ws env.places i _ _)
-      (choose (eqb (instr_kind env.ws i) in_words_lem.call) (called_going n env.ws env.places i _ _)
-      (choose (eqb (instr_kind env.ws i) in_words_lem.sys) (builtin_going n env.ws env.places i _ _)
-      (choose (eqb (instr_kind env.ws i) in_words_lem.lookup) (lookup_going n _ _ _) (compute_going n env.ws env.places i))))
+      choose (eqb (instr_kind env.ws i) in_words.load_const) (constant_going n env.ws env.places i _ _)
+      (choose (eqb (instr_kind env.ws i) in_words.call) (called_going n env.ws env.places i _ _)
+      (choose (eqb (instr_kind env.ws i) in_words.sys) (builtin_going n env.ws env.places i _ _)
+      (choose (eqb (instr_kind env.ws i) in_words.lookup) (lookup_going n _ _ _) (compute_going n env.ws env.places i))))
 
   pub instrs_going : (table i k : ℕ) → Going (instrs_ops n env table i k)
   unfolding instrs_ops
   instrs_going table i zero = record { by = λ g. g }
-  instrs_going table i (suc k) = record { by = λ g. (instrs_going _ _ k).by ((instr_going table i).by (by_span _ g)) }
+  instrs_going table i (suc k) = record { by = λ g. (instrs_going (table + pick (eqb (instr_kind env.ws i) in_words.lookup) 1 0) (i + 1) k).by ((instr_going table i).by (by_span _ g)) }
 
   -- a run of instructions is its first j and the rest
   pub instrs_split : (t i j k : ℕ) (o : Out)
@@ -200,7 +200,7 @@ module _ (n : ℕ) (env : Env) where
       let a : 0 + k ≡ k = omega arith in
       rw (a, add-zero t, add-zero i)
   instrs_split t i (suc j) k o =
-      let x : ℕ = pick (eqb (instr_kind env.ws i) in_words_lem.lookup) 1 0 in
+      let x : ℕ = pick (eqb (instr_kind env.ws i) in_words.lookup) 1 0 in
       let m : ℕ = lookups_in env.ws (i + 1) j in
       let a : suc j + k ≡ suc (j + k) = omega arith in
       let c : i + suc j ≡ i + 1 + j = omega arith in

@@ -2,7 +2,7 @@
 use mathlib.Core.Path.{◌≡◌, refl, sym, ap, ◌∙◌}
 use mathlib.Core.Logic.{◌≢◌, ⊎_elim}
 use mathlib.Core.Bool.{Bool, true, false}
-use Prim.Native.Nat.{ℕ, zero, suc, ◌+◌, ◌*◌, ◌-◌, ◌≤◌, ◌<◌}
+use Prim.Native.Nat.{ℕ, zero, suc, ◌+◌, ◌*◌, ◌≤◌, ◌<◌}
 use mathlib.Core.List.{List, ◌++◌}
 use native.Mathlib.Nat.{add-zero}
 use native.Mathlib.Omega.{arith}
@@ -35,7 +35,7 @@ module _ (ws map keys : List ℕ) (start : ℕ) where
   unfolding store_cases
   store_long label c e zero l = refl
   store_long label c e (suc k) l =
-      ap length (store-turn label c e k l) ∙ store_long _ (c + 1) (e + 1) k _ ∙ length-set l (start + slot_for ws keys c) _
+      ap length (store-turn label c e k l) ∙ store_long (label + pick (has_moves ws map e) 1 0) (c + 1) (e + 1) k _ ∙ length-set l (start + slot_for ws keys c) _
 
   -- what no case has
   store_other : (label c e k : ℕ) (l : List ℕ) (t : ℕ) → ((j : ℕ) → j < k → start + slot_for ws keys (c + j) ≢ t)

@@ -13,7 +13,7 @@ use Rattle.base.specs.Choice.{pick}
 use Rattle.base.specs.Emission.{Out, at_span, bind}
 use Rattle.base.proofs.Numbers.{both}
 use Rattle.input.specs.Layout.{blocks}
-use Rattle.input.specs.Records as in_words_lem
+use Rattle.input.specs.Records as in_words
 use Rattle.input.specs.Records.{first_instr, instr_count, instr_kind, instr_span, term_kind, term_span, term_operands, first_edge, edge_count, term_x, term_y, edge_target}
 use Rattle.ready.specs.Ready.{Ready, Live}
 use Rattle.lower.specs.Operands.{operand_reg, fetched}
@@ -50,9 +50,9 @@ module _ (n : ℕ) (env : Env) (known : (b : ℕ) → b < blocks env.ws → term
     (labelled : 2 * blocks env.ws ≤ t.label) (room : 2 * blocks env.ws ≤ length B.labels)
     (pads-room : t.label + pads_of env.ws env.places b ≤ length B.labels)
     (follows : next_live env.ws (b + 1) k < blocks env.ws → length (block_ops n env t b k q).ops ≡ block_pc F (next_live env.ws (b + 1) k))
-    (start : ℕ) (slotted : term_kind env.ws b ≡ in_words_lem.switch → Slotted env F targets t.label b start)
-    (headed : term_kind env.ws b ≡ in_words_lem.switch → take 3 (drop (3 * t.switches) heads) ≡ switch_head env.ws b start) (values : ℕ)
-    (looked : (j : ℕ) → j < instr_count env.ws b → instr_kind env.ws (first_instr env.ws b + j) ≡ in_words_lem.lookup
+    (start : ℕ) (slotted : term_kind env.ws b ≡ in_words.switch → Slotted env F targets t.label b start)
+    (headed : term_kind env.ws b ≡ in_words.switch → take 3 (drop (3 * t.switches) heads) ≡ switch_head env.ws b start) (values : ℕ)
+    (looked : (j : ℕ) → j < instr_count env.ws b → instr_kind env.ws (first_instr env.ws b + j) ≡ in_words.lookup
     → take 5 (drop (5 * (t.lookups + lookups_in env.ws (first_instr env.ws b) j)) lookup_heads)
     ≡ lookup_head env.ws (first_instr env.ws b + j) (values + slots_in env.ws (first_instr env.ws b) j)) where
   abbrev ws : List ℕ
@@ -173,7 +173,7 @@ module _ (n : ℕ) (env : Env) (known : (b : ℕ) → b < blocks env.ws → term
     follows_is : next < bs → length o.ops ≡ block_pc F next
     follows_is g = ap (λ (x : Out). length x.ops) (sym (block_is ∙ same)) ∙ follows g
 
-  jump_at_lem : term_kind ws b ≡ in_words_lem.jump → EdgeAt n env F (first_edge ws b) (length r.ops)
+  jump_at_lem : term_kind ws b ≡ in_words.jump → EdgeAt n env F (first_edge ws b) (length r.ops)
   jump_at_lem g =
       let same = term_jump n env t.switches t.label next b r g in
       let i : edge_target ws (first_edge ws b) < bs = first_in (omega (arith, ready.one_edge b live g)) in
@@ -181,12 +181,12 @@ module _ (n : ℕ) (env : Env) (known : (b : ℕ) → b < blocks env.ws → term
       (edge_at n env fin next (first_edge ws b) s s-from (y_is same) (omega (arith, ready.few_blocks))
       (λ (e : edge_target ws (first_edge ws b) ≡ next). follows_is same (omega arith)))
 
-  return_stands : term_kind ws b ≡ in_words_lem.return → ReturnAt n env regs F b (length r.ops)
+  return_stands : term_kind ws b ≡ in_words.return → ReturnAt n env regs F b (length r.ops)
   return_stands g =
       let same = term_return n env t.switches t.label next b r g in
       rw (← long) (return_at n env fin exits b s s-from (y_is same))
 
-  tail_stands : term_kind ws b ≡ in_words_lem.tail_call → TailAt n env regs F b (length r.ops)
+  tail_stands : term_kind ws b ≡ in_words.tail_call → TailAt n env regs F b (length r.ops)
   tail_stands g =
       let f : ℕ = get_or env.functions (term_x ws b) 0 in
       let same = term_tail n env t.switches t.label next b r g in
@@ -196,7 +196,7 @@ module _ (n : ℕ) (env : Env) (known : (b : ℕ) → b < blocks env.ws → term
         ends = tail-ends n env fin exits f (term_operands ws b) s s-from (y_is same);
       })
 
-  branches_at : in_words_lem.branch ≤ term_kind ws b → term_kind ws b ≤ in_words_lem.branch_cmp → BranchAt n env F b (length r.ops)
+  branches_at : in_words.branch ≤ term_kind ws b → term_kind ws b ≤ in_words.branch_cmp → BranchAt n env F b (length r.ops)
   branches_at lo hi =
       let same = term_branch n env t.switches t.label next b r lo hi in
       let two = ready.two_edges b live lo hi in
@@ -206,12 +206,12 @@ module _ (n : ℕ) (env : Env) (known : (b : ℕ) → b < blocks env.ws → term
       (first_in (omega arith)) (target_in 1 (omega arith)) (follows_is same) lo hi)
 
   -- ---- Switch
-  module _ (g : term_kind env.ws b ≡ in_words_lem.switch) where
+  module _ (g : term_kind env.ws b ≡ in_words.switch) where
     count : ℕ
     count = pad_count ws places (first_edge ws b) (term_y ws b)
 
     pads_are : pads_of ws places b ≡ pad_count ws places (first_edge ws b) (term_y ws b)
-    pads_are = rw (eq-eqb (term_kind ws b) in_words_lem.switch g)
+    pads_are = rw (eq-eqb (term_kind ws b) in_words.switch g)
 
     switched : term_ops n env t.switches t.label next b (stage (instr_count env.ws b)) ≡ switch_ops n ws places t.switches t.label next b s
     switched = term_switch n env t.switches t.label next b r g

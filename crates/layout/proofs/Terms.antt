@@ -2,7 +2,7 @@
 use mathlib.Core.Path.{◌≡◌, refl, ap, ◌∙◌}
 use mathlib.Core.Logic.{◌≢◌, ⊎_elim}
 use mathlib.Core.Bool.{true}
-use Prim.Native.Nat.{ℕ, ◌+◌, ◌*◌, ◌-◌, ◌%◌, ◌^◌, ◌≤◌, ◌<◌}
+use Prim.Native.Nat.{ℕ, ◌+◌, ◌*◌, ◌%◌, ◌^◌, ◌≤◌, ◌<◌}
 use mathlib.Core.List.{List, [], ◌∷◌}
 use native.Mathlib.Nat.{add-zero}
 use native.Mathlib.Omega.{arith}
@@ -18,7 +18,7 @@ use Rattle.op.specs.Ops as op
 use Rattle.program.specs.Functions.{function_kind, function_number, bytecode}
 use Rattle.input.specs.Forms.{both}
 use Rattle.input.specs.Layout.{blocks}
-use Rattle.input.specs.Records as in_words_lem
+use Rattle.input.specs.Records as in_words
 use Rattle.input.specs.Records.{term_kind, term_span, term_operands, term_operand_count, first_edge, term_x, term_y, edge_target}
 use Rattle.lower.specs.Operands.{fetched, operand_reg}
 use Rattle.frame.specs.Frames.{op_at}
@@ -41,8 +41,8 @@ use Rattle.layout.proofs.Branches.{branches_add}
 use Rattle.layout.proofs.Pads.{switch_adds, switch_long}
 
 -- the kinds one by one, the branches together
-by_kind : {A : Type 0} (k : ℕ) → k < 8 → (k ≡ in_words_lem.no_term → A) → (k ≡ in_words_lem.return → A) → (k ≡ in_words_lem.jump → A)
-    → (in_words_lem.branch ≤ k → k ≤ in_words_lem.branch_cmp → A) → (k ≡ in_words_lem.tail_call → A) → (k ≡ in_words_lem.switch → A) → A
+by_kind : {A : Type 0} (k : ℕ) → k < 8 → (k ≡ in_words.no_term → A) → (k ≡ in_words.return → A) → (k ≡ in_words.jump → A)
+    → (in_words.branch ≤ k → k ≤ in_words.branch_cmp → A) → (k ≡ in_words.tail_call → A) → (k ≡ in_words.switch → A) → A
 by_kind k h k0 k1 k2 k3 k6 k7 =
     ⊎_elim
     (λ (a : k < 3).
@@ -57,40 +57,40 @@ module _ (n : ℕ) (env : Env) (table label next b : ℕ) (o : Out) where
   abbrev q : Out
   q = at_span (term_span env.ws b) o
 
-  term_none : term_kind env.ws b ≡ in_words_lem.no_term → term_ops n env table label next b o ≡ o
+  term_none : term_kind env.ws b ≡ in_words.no_term → term_ops n env table label next b o ≡ o
   unfolding term_ops
   term_none k = rw k
 
-  pub term_return : term_kind env.ws b ≡ in_words_lem.return → term_ops n env table label next b o ≡ return_ops n env.ws env.places b (at_span (term_span env.ws b) o)
+  pub term_return : term_kind env.ws b ≡ in_words.return → term_ops n env table label next b o ≡ return_ops n env.ws env.places b (at_span (term_span env.ws b) o)
   unfolding term_ops
   term_return k = rw k
 
-  pub term_jump : term_kind env.ws b ≡ in_words_lem.jump
+  pub term_jump : term_kind env.ws b ≡ in_words.jump
       → term_ops n env table label next b o ≡ edge n env.ws env.places next (first_edge env.ws b) (at_span (term_span env.ws b) o)
   unfolding term_ops
   term_jump k = rw k
 
-  pub term_tail : term_kind env.ws b ≡ in_words_lem.tail_call
+  pub term_tail : term_kind env.ws b ≡ in_words.tail_call
       → term_ops n env table label next b o
       ≡ lower_tail n env.places (term_operands env.ws b) (get_or env.functions (term_x env.ws b) 0) (at_span (term_span env.ws b) o)
   unfolding term_ops
   term_tail k = rw k
 
-  pub term_switch : term_kind env.ws b ≡ in_words_lem.switch
+  pub term_switch : term_kind env.ws b ≡ in_words.switch
       → term_ops n env table label next b o ≡ switch_ops n env.ws env.places table label next b (at_span (term_span env.ws b) o)
   unfolding term_ops
   term_switch k = rw k
 
-  pub term_branch : in_words_lem.branch ≤ term_kind env.ws b → term_kind env.ws b ≤ in_words_lem.branch_cmp
+  pub term_branch : in_words.branch ≤ term_kind env.ws b → term_kind env.ws b ≤ in_words.branch_cmp
       → term_ops n env table label next b o ≡ branch_ops n env.ws env.places next b (at_span (term_span env.ws b) o)
   unfolding term_ops
   term_branch lo hi =
       rw (
-        ne_eqb (term_kind env.ws b) in_words_lem.no_term (λ (e : term_kind env.ws b ≡ in_words_lem.no_term). omega arith),
-        ne_eqb (term_kind env.ws b) in_words_lem.return (λ (e : term_kind env.ws b ≡ in_words_lem.return). omega arith),
-        ne_eqb (term_kind env.ws b) in_words_lem.jump (λ (e : term_kind env.ws b ≡ in_words_lem.jump). omega arith),
-        ne_eqb (term_kind env.ws b) in_words_lem.tail_call (λ (e : term_kind env.ws b ≡ in_words_lem.tail_call). omega arith),
-        ne_eqb (term_kind env.ws b) in_words_lem.switch (λ (e : term_kind env.ws b ≡ in_words_lem.switch). omega arith),
+        ne_eqb (term_kind env.ws b) in_words.no_term (λ (e : term_kind env.ws b ≡ in_words.no_term). omega arith),
+        ne_eqb (term_kind env.ws b) in_words.return (λ (e : term_kind env.ws b ≡ in_words.return). omega arith),
+        ne_eqb (term_kind env.ws b) in_words.jump (λ (e : term_kind env.ws b ≡ in_words.jump). omega arith),
+        ne_eqb (term_kind env.ws b) in_words.tail_call (λ (e : term_kind env.ws b ≡ in_words.tail_call). omega arith),
+        ne_eqb (term_kind env.ws b) in_words.switch (λ (e : term_kind env.ws b ≡ in_words.switch). omega arith),
       )
 
   -- ---- what each adds
@@ -123,19 +123,19 @@ module _ (n : ℕ) (env : Env) (table label next b : ℕ) (o : Out) where
       (adds_then (adds_any spanned) (switch_adds n env.ws env.places table label next b q (λ l p a z. g l p a (rw k z)))))
 
   -- two ops at least for each pad
-  pub term_long : term_kind env.ws b < 8 → (term_kind env.ws b ≡ in_words_lem.switch → (i : ℕ) → i < term_y env.ws b → edge_target env.ws (first_edge env.ws b + i) < blocks env.ws)
+  pub term_long : term_kind env.ws b < 8 → (term_kind env.ws b ≡ in_words.switch → (i : ℕ) → i < term_y env.ws b → edge_target env.ws (first_edge env.ws b + i) < blocks env.ws)
       → length o.ops + 2 * pick (is_switch env.ws b) (pad_count env.ws env.places (first_edge env.ws b) (term_y env.ws b)) 0
       ≤ length (term_ops n env table label next b o).ops
   term_long known f =
       ⊎_elim
-      (λ (k : term_kind env.ws b ≡ in_words_lem.switch).
+      (λ (k : term_kind env.ws b ≡ in_words.switch).
       let s : length q.ops ≡ length o.ops = ap length (span_ops o (term_span env.ws b)) in
       let l = switch_long n env.ws env.places table label next b q (f k) in
-      rw (term_switch k, eq-eqb (term_kind env.ws b) in_words_lem.switch k) (omega (arith, s, l)))
-      (λ (k : term_kind env.ws b ≢ in_words_lem.switch).
-      rw (ne_eqb (term_kind env.ws b) in_words_lem.switch k)
+      rw (term_switch k, eq-eqb (term_kind env.ws b) in_words.switch k) (omega (arith, s, l)))
+      (λ (k : term_kind env.ws b ≢ in_words.switch).
+      rw (ne_eqb (term_kind env.ws b) in_words.switch k)
       (omega (arith, adds_few (term_adds {P = Nil} known (λ l z. absurd (omega arith)) (λ l z a c. omega arith)))))
-      (same? (term_kind env.ws b) in_words_lem.switch)
+      (same? (term_kind env.ws b) in_words.switch)
 
 -- ---- Tail: its shuffle stands, ..
 pub tail_at : (n : ℕ) (env : Env) {from : ℕ} {B F : Out} → Finished from B F → {P : ℕ → Type 0} (f : ℕ) (arguments : List ℕ) (q : Out) → from ≤ length q.ops

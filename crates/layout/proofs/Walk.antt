@@ -2,7 +2,7 @@
 use mathlib.Core.Path.{◌≡◌, sym, ap, ◌∙◌}
 use mathlib.Core.Logic.{◌≢◌, ⊎_elim}
 use mathlib.Core.Bool.{true, false}
-use Prim.Native.Nat.{ℕ, zero, suc, ◌+◌, ◌*◌, ◌-◌, ◌≤◌, ◌<◌, min}
+use Prim.Native.Nat.{ℕ, zero, suc, ◌+◌, ◌*◌, ◌≤◌, ◌<◌, min}
 use mathlib.Core.List.{List, ◌++◌}
 use native.Mathlib.Nat.{add-zero, add-mul, one-mul, mul-le-mul_right}
 use native.Mathlib.Omega.{arith}
@@ -12,7 +12,7 @@ use Rattle.base.specs.Choice.{pick}
 use Rattle.base.specs.Emission.{Out}
 use Rattle.base.proofs.Numbers.{both, same?}
 use Rattle.input.specs.Layout.{blocks, edges}
-use Rattle.input.specs.Records as in_words_lem
+use Rattle.input.specs.Records as in_words
 use Rattle.input.specs.Records.{is_live, term_kind, first_edge, edge_count, term_x, term_y}
 use Rattle.ready.specs.Ready.{Ready, Live}
 use Rattle.edges.specs.Edges.{pad_count}
@@ -134,11 +134,11 @@ module _ (n : ℕ) (env : Env) (known : (b : ℕ) → b < blocks env.ws → term
   pads_few : (b : ℕ) → Live env.ws b → pads_of env.ws env.places b ≤ edges env.ws
   pads_few b live =
       ⊎_elim
-      (λ (s : term_kind env.ws b ≡ in_words_lem.switch).
-      rw (eq-eqb (term_kind env.ws b) in_words_lem.switch s)
+      (λ (s : term_kind env.ws b ≡ in_words.switch).
+      rw (eq-eqb (term_kind env.ws b) in_words.switch s)
       (omega (arith, count_few env.ws env.places (first_edge env.ws b) (term_y env.ws b), edges_there b live, ready.case_edges b live s)))
-      (λ (s : term_kind env.ws b ≢ in_words_lem.switch). rw (ne_eqb (term_kind env.ws b) in_words_lem.switch s) (omega arith))
-      (same? (term_kind env.ws b) in_words_lem.switch)
+      (λ (s : term_kind env.ws b ≢ in_words.switch). rw (ne_eqb (term_kind env.ws b) in_words.switch s) (omega arith))
+      (same? (term_kind env.ws b) in_words.switch)
 
   -- behind a block there are still few
   few_on : (t : Tally) (b k : ℕ) (q : Out) → Live env.ws b → Few env b t.label (length q.ops)
@@ -186,8 +186,8 @@ module _ (n : ℕ) (env : Env) (known : (b : ℕ) → b < blocks env.ws → term
         sym (next_bound n env known t' (b + 1) k r (omega arith) (omega (arith, f.from, e)) long i)
         ∙ sym (y'.kept (next_live env.ws (b + 1) k) (omega arith))
         ∙ ap (λ (x : List ℕ). get_or x (next_live env.ws (b + 1) k) 0) (sym fin.labels_same))
-        T.start (λ (s : term_kind env.ws b ≡ in_words_lem.switch). slotted env T resolves (rw (live, eq-eqb (term_kind env.ws b) in_words_lem.switch s)))
-        (λ (s : term_kind env.ws b ≡ in_words_lem.switch). headed T (rw (live, eq-eqb (term_kind env.ws b) in_words_lem.switch s)))
+        T.start (λ (s : term_kind env.ws b ≡ in_words.switch). slotted env T resolves (rw (live, eq-eqb (term_kind env.ws b) in_words.switch s)))
+        (λ (s : term_kind env.ws b ≡ in_words.switch). headed T (rw (live, eq-eqb (term_kind env.ws b) in_words.switch s)))
         L.start (looked_at L live)
 
     pub walk : (t : Tally) (b k : ℕ) (q : Out) → b + k ≡ blocks env.ws → start ≤ length q.ops → Few env b t.label (length q.ops)

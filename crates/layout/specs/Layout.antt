@@ -10,7 +10,7 @@ use Rattle.op.specs.Words.{word, parts}
 use Rattle.op.specs.Ops as op
 use Rattle.op.specs.Targets.{is_jump, aimed}
 use Rattle.input.specs.Forms.{words_ok}
-use Rattle.input.specs.Records as in_words_lem
+use Rattle.input.specs.Records as in_words
 use Rattle.input.specs.Records.{first_instr, instr_count, instr_kind, term_kind, term_operand_count, term_operands, first_edge, term_x, term_y, edge_target}
 use Rattle.shape.specs.Shape.{shape_ok}
 use Rattle.ready.specs.Ready.{Ready, Live}
@@ -56,7 +56,7 @@ pub record EdgeAt (n : ℕ) (env : Env) (out : Out) (e pc : ℕ) : Type 0 where
 pub record InstrAt (n : ℕ) (env : Env) (out : Out) (lookup_heads : List ℕ) (i pc pc' : ℕ) : Type 0 where
   pub table : ℕ
   pub start : ℕ
-  pub head : instr_kind env.ws i ≡ in_words_lem.lookup → take 5 (drop (5 * table) lookup_heads) ≡ lookup_head env.ws i start
+  pub head : instr_kind env.ws i ≡ in_words.lookup → take 5 (drop (5 * table) lookup_heads) ≡ lookup_head env.ws i start
   pub before : Out
   pub from : length before.ops ≡ pc
   pub until : length (instr_ops n env table i before).ops ≡ pc'
@@ -73,14 +73,14 @@ pub data Fetched (n : ℕ) (out : Out) (p reg : ℕ) : ℕ → ℕ → Type 0 wh
 
 -- The ops of the branches, without their target, which stand at `at` behind the fetches of their operands. Two slots are loaded to two registers.
 pub data BranchOp (n : ℕ) (env : Env) (out : Out) (b pc at : ℕ) : Op → Type 0 where
-  on_false : (c : ℕ) → term_kind env.ws b ≡ in_words_lem.branch → Fetched n out (term_place env.ws env.places b 0) c pc at
+  on_false : (c : ℕ) → term_kind env.ws b ≡ in_words.branch → Fetched n out (term_place env.ws env.places b 0) c pc at
       → BranchOp n env out b pc at (op.jmp_f c 0)
-  on_other : (l : ℕ) → term_kind env.ws b ≡ in_words_lem.branch_cmp_imm → Fetched n out (term_place env.ws env.places b 0) l pc at
+  on_other : (l : ℕ) → term_kind env.ws b ≡ in_words.branch_cmp_imm → Fetched n out (term_place env.ws env.places b 0) l pc at
       → BranchOp n env out b pc at (op.jmp_ne_i l (term_y env.ws b) 0)
-  on_unequal : (l r mid : ℕ) → term_kind env.ws b ≡ in_words_lem.branch_cmp → Fetched n out (term_place env.ws env.places b 0) l pc mid
+  on_unequal : (l r mid : ℕ) → term_kind env.ws b ≡ in_words.branch_cmp → Fetched n out (term_place env.ws env.places b 0) l pc mid
       → Fetched n out (term_place env.ws env.places b 1) r mid at
       → (slots_from ≤ term_place env.ws env.places b 0 → slots_from ≤ term_place env.ws env.places b 1 → l ≢ r)
-      → BranchOp n env out b pc at (op.jmp_sne l r 0)
+      → BranchOp n env out b pc at (op.jmp_s_ne l r 0)
 
 -- A branch jumps to its no edge, or goes on to its yes edge.
 pub record BranchAt (n : ℕ) (env : Env) (out : Out) (b pc : ℕ) : Type 0 where
@@ -139,11 +139,11 @@ pub data ReturnAt (n : ℕ) (env : Env) (regs : List ℕ) (out : Out) (b pc : �
       → get_or out.ops at 0 ≡ word (op.mov 0 reg) → Leaves regs out (word op.ret) (at + 1) → ReturnAt n env regs out b pc
 
 pub record TermAt (n : ℕ) (env : Env) (regs : List ℕ) (out : Out) (targets heads : List ℕ) (b pc : ℕ) : Type 0 where
-  pub return : term_kind env.ws b ≡ in_words_lem.return → ReturnAt n env regs out b pc
-  pub jump : term_kind env.ws b ≡ in_words_lem.jump → EdgeAt n env out (first_edge env.ws b) pc
-  pub branch : in_words_lem.branch ≤ term_kind env.ws b → term_kind env.ws b ≤ in_words_lem.branch_cmp → BranchAt n env out b pc
-  pub switch : term_kind env.ws b ≡ in_words_lem.switch → SwitchAt n env out targets heads b pc
-  pub tail : term_kind env.ws b ≡ in_words_lem.tail_call → TailAt n env regs out b pc
+  pub return : term_kind env.ws b ≡ in_words.return → ReturnAt n env regs out b pc
+  pub jump : term_kind env.ws b ≡ in_words.jump → EdgeAt n env out (first_edge env.ws b) pc
+  pub branch : in_words.branch ≤ term_kind env.ws b → term_kind env.ws b ≤ in_words.branch_cmp → BranchAt n env out b pc
+  pub switch : term_kind env.ws b ≡ in_words.switch → SwitchAt n env out targets heads b pc
+  pub tail : term_kind env.ws b ≡ in_words.tail_call → TailAt n env regs out b pc
 
 -- ---- a live block: from its first op through its instructions in order to its terminator, in a frame that saves regs
 pub record BlockAt (n : ℕ) (env : Env) (regs : List ℕ) (out : Out) (targets heads lookup_heads : List ℕ) (b : ℕ) : Type 0 where

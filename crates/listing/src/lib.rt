@@ -10,12 +10,13 @@
 //     value I KIND PAYLOAD
 //     place F V WORD, for each value V of function F of the file, if that was compiled; WORD in decimal
 //     refused NUMBER NAME INDEX ID, if a function was
+#![tactic(auto)]
+
 mod text;
 
-use libc::STDOUT_FILENO;
 use op::Op;
 use std::num::{wrapping_add_u64, wrapping_add_usize};
-use text::{constant, hex, number, padded, signed32, signed64, wide_field};
+use text::{STDOUT_FILENO, constant, hex, number, padded, signed32, signed64, wide_field};
 pub use text::{end, field, head, refusal, write};
 
 // The function table and the lists of a program.

@@ -1,5 +1,5 @@
-// Lines on standard output.
-use libc::STDOUT_FILENO;
+// Lines on standard output, and its number.
+pub const STDOUT_FILENO: i32 = 1;
 
 // The names of document 01's numbers, 0 for none of them.
 const REFUSALS: [u8; 84] = *b"\

@@ -2,7 +2,7 @@
 use Rattle.std.specs.Prelude.{◌≡◌, Bool, ℕ, ◌+◌, ◌*◌, ◌/◌, ◌≤◌, ◌<◌, min, List, leb, eqb, length, take}
 use Rattle.std.proofs.lemmas.List.Edits.{sets}
 use Rattle.base.specs.Choice.{pick}
-use Rattle.base.specs.Limits.{most_of_akind}
+use Rattle.base.specs.Limits.{most_of_a_kind}
 use Rattle.base.specs.Buffers.{zero_from}
 use Rattle.input.specs.Layout.{values}
 use Rattle.input.specs.Forms.{both}
@@ -28,7 +28,7 @@ value_words u = 2 * u.values
 
 -- how many words of a buffer there is room for, in records of so many words, at most 65,534 of a kind
 abbrev pub room : ℕ → List ℕ → ℕ
-room words l = words * min (length l / words) most_of_akind
+room words l = words * min (length l / words) most_of_a_kind
 
 -- the six, each in its buffer or by itself
 pub record Lists : Type 0 where

@@ -1,6 +1,7 @@
 // The lists that the functions of a program share.
+#![tactic(auto)]
 ghost use Rattle.std.specs.Prelude.{◌≡◌, false, not, ◌*◌, ◌/◌, ◌≤◌, min};
-ghost use Rattle.base.specs.Limits.{most_of_akind};
+ghost use Rattle.base.specs.Limits.{most_of_a_kind};
 ghost use Rattle.base.specs.Choice.{pick};
 ghost use Rattle.input.specs.Forms.{both};
 ghost use Rattle.lists.specs.Lists.{lists, ListsReady, Listed};
@@ -10,7 +11,7 @@ use grow::End;
 
 // How much of each buffer is used: ops and spans share one length; globals and lookup values are pairs, a switch table has three words, a lookup
 // table five.
-#[derive(Drop)]
+#[derive(Clone, Copy)]
 pub struct Used {
     pub ops: usize,
     pub globals: usize,
@@ -22,7 +23,7 @@ pub struct Used {
 }
 
 // The number of the refusal, 0 for none, and the used lengths behind the function.
-#[derive(Drop)]
+#[derive(Clone, Copy)]
 pub struct Tried {
     pub number: u8,
     pub used: Used,
@@ -34,7 +35,7 @@ const MOST: usize = 65534;
 // How many words of a buffer there is room for, in records of `words` words each.
 pub fn room(words: usize, size: usize) -> usize
     requires { (1 ≤ words) × (words ≤ 5) }
-    ensures { result ≡ words * min (size / words) most_of_akind }
+    ensures { result ≡ words * min (size / words) most_of_a_kind }
 {
     let n = size / words;
     if MOST < n { words * MOST } else { words * n }
@@ -43,7 +44,7 @@ pub fn room(words: usize, size: usize) -> usize
 // A list that ends so far in its buffer.
 fn end_at(words: usize, at: usize, size: usize) -> End
     requires { (1 ≤ words) × (words ≤ 5) }
-    ensures { result ≡ record { at = at; room = words * min (size / words) most_of_akind; full = false } }
+    ensures { result ≡ record { at = at; room = words * min (size / words) most_of_a_kind; full = false } }
 {
     End {
         at,
@@ -60,7 +61,7 @@ fn neither(first: bool, second: bool) -> bool
 }
 
 // The ends of two lists, and whether all of both found room.
-#[derive(Drop)]
+#[derive(Clone, Copy)]
 struct Pair {
     first: usize,
     second: usize,

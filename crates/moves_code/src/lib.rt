@@ -1,4 +1,6 @@
 // Parallel moves: the emitter over two columns of place numbers.
+#![tactic(auto)]
+
 ghost use Rattle.std.specs.Prelude.{◌≡◌, List, ℕ, ◌+◌, ◌≤◌, ◌<◌, map, length, take};
 ghost use Rattle.base.specs.Lists.{among};
 ghost use Rattle.base.specs.Emission.{emit_all};

@@ -10,7 +10,7 @@ use lib.ListN.{length, take, drop, replicate, length-replicate}
 use lib.Seq.{sets, take_at}
 use lib.Dec.{leb}
 use Rattle.base.specs.Choice.{pick}
-use Rattle.base.specs.Limits.{most_moves, most_of_akind}
+use Rattle.base.specs.Limits.{most_moves, most_of_a_kind}
 use Rattle.base.proofs.Numbers.{lt?}
 use Rattle.base.proofs.Lists.{sets-front}
 use Rattle.moves.specs.Moves.{move_words}
@@ -34,12 +34,12 @@ pub record Few (count used : ℕ) (ops spans : List ℕ) : Type 0 where
   pub moves : count ≤ most_moves
   pub in_ops : used ≤ length ops
   pub in_spans : used ≤ length spans
-  pub in_all : used ≤ most_of_akind
+  pub in_all : used ≤ most_of_a_kind
 
 -- what passing it says
 pub few : (count used : ℕ) (ops spans : List ℕ) → few_enough count used ops spans ≡ true → Few count used ops spans
 few count used ops spans h =
-    let t = all_four (leb count most_moves) (leb used (length ops)) (leb used (length spans)) (leb used most_of_akind) h in
+    let t = all_four (leb count most_moves) (leb used (length ops)) (leb used (length spans)) (leb used most_of_a_kind) h in
     record {
       moves = leb-true _ _ t.0;
       in_ops = leb-true _ _ t.1.0;
@@ -49,19 +49,19 @@ few count used ops spans h =
 
 module _ (words : List ℕ) (used span : ℕ) (ops spans : List ℕ) where
   -- a buffer is too short
-  pub no_room : (n : ℕ) → n ≡ length words → min most_of_akind (min (length ops) (length spans)) < used + n → outcome NoRoom ops spans ≡ appended words used span ops spans
+  pub no_room : (n : ℕ) → n ≡ length words → min most_of_a_kind (min (length ops) (length spans)) < used + n → outcome NoRoom ops spans ≡ appended words used span ops spans
   unfolding appended
   no_room n e h =
-      let l : min most_of_akind (min (length ops) (length spans)) < used + length words = omega arith in
-      rw (lt-leb (used + length words) (min most_of_akind (min (length ops) (length spans))) l)
+      let l : min most_of_a_kind (min (length ops) (length spans)) < used + length words = omega arith in
+      rw (lt-leb (used + length words) (min most_of_a_kind (min (length ops) (length spans))) l)
 
   -- the words are copied
-  pub all_copied : (n : ℕ) (front marks ops' spans' : List ℕ) → Fresh words span front marks n → used + n ≤ most_of_akind → used + n ≤ length ops → used + n ≤ length spans
+  pub all_copied : (n : ℕ) (front marks ops' spans' : List ℕ) → Fresh words span front marks n → used + n ≤ most_of_a_kind → used + n ≤ length ops → used + n ≤ length spans
       → ops' ≡ sets ops used (take n front) → spans' ≡ sets spans used (take n marks) → outcome (Done (used + n)) ops' spans' ≡ appended words used span ops spans
   unfolding appended
   all_copied n front marks ops' spans' f m h k e g =
-      let l : used + length words ≤ min most_of_akind (min (length ops) (length spans)) = omega (arith, f.count) in
-      rw (le-leb (used + length words) (min most_of_akind (min (length ops) (length spans))) l, e, g, f.front, f.marks, f.count)
+      let l : used + length words ≤ min most_of_a_kind (min (length ops) (length spans)) = omega (arith, f.count) in
+      rw (le-leb (used + length words) (min most_of_a_kind (min (length ops) (length spans))) l, e, g, f.front, f.marks, f.count)
 
 module _ (n : ℕ) (c : Columns) (used span : ℕ) (ops spans : List ℕ) where
   -- the first test fails

@@ -2,7 +2,7 @@
 use Rattle.std.specs.Prelude.{ℕ, ◌+◌, min, List, [], ◌∷◌, Bool, true, false, length, replicate, leb}
 use Rattle.std.proofs.lemmas.List.Edits.{sets}
 use Rattle.base.specs.Choice.{pick}
-use Rattle.base.specs.Limits.{most_moves, most_of_akind}
+use Rattle.base.specs.Limits.{most_moves, most_of_a_kind}
 use Rattle.moves.specs.Moves.{move_words}
 use Rattle.moves.specs.AtOnce.{moves_ok}
 use Rattle.place.specs.Places.{number_of}
@@ -59,10 +59,10 @@ written words used span ops spans =
 -- no more than 190 moves, and the used length within both buffers and what a program may have
 abbrev pub few_enough : ℕ → ℕ → List ℕ → List ℕ → Bool
 few_enough count used ops spans =
-    pick (leb count most_moves) (pick (leb used (length ops)) (pick (leb used (length spans)) (leb used most_of_akind) false) false) false
+    pick (leb count most_moves) (pick (leb used (length ops)) (pick (leb used (length spans)) (leb used most_of_a_kind) false) false) false
 
 abbrev pub room_for : List ℕ → ℕ → List ℕ → List ℕ → Bool
-room_for words used ops spans = leb (used + length words) (min most_of_akind (min (length ops) (length spans)))
+room_for words used ops spans = leb (used + length words) (min most_of_a_kind (min (length ops) (length spans)))
 
 -- 2 before all else; a list that is no proper list needs no room, so it is 10 whatever is lent; then 9
 unfoldable pub outcome_of : ℕ → List ℕ → List ℕ → ℕ → ℕ → List ℕ → List ℕ → Outcome

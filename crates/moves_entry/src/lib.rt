@@ -1,7 +1,8 @@
 // The outer entry of parallel moves, over a slice of pairs: a thin layer over the number columns.
+#![tactic(auto)]
 ghost use Rattle.std.specs.Prelude.{◌≡◌, Bool, ◌<◌, ◌≤◌, min, length, take, drop, leb};
 ghost use Rattle.base.specs.Choice.{pick};
-ghost use Rattle.base.specs.Limits.{most_moves, most_of_akind};
+ghost use Rattle.base.specs.Limits.{most_moves, most_of_a_kind};
 ghost use Rattle.base.specs.Lists.{among, distinct};
 ghost use Rattle.place.specs.Registers.{registers};
 ghost use Rattle.moves.specs.Moves.{move_words};
@@ -13,14 +14,14 @@ use base::Pen;
 use place::Place;
 
 // One pending move.
-#[derive(Drop)]
+#[derive(Clone, Copy)]
 pub struct Move {
     pub src: Place,
     pub dst: Place,
 }
 
 // What comes back; document 01's number of each is `answer_number`, which the promise cites.
-#[derive(Drop)]
+#[derive(Clone, Copy)]
 pub enum Emitted {
     Done(usize),
     TooMany,
@@ -38,7 +39,7 @@ const MOST_OPS: usize = 65534;
 const MOST_WORDS: usize = 760;
 
 // A list of moves as two columns of place numbers: how many they are, and the first 190 of them.
-#[derive(Drop)]
+#[derive(Clone, Copy)]
 pub struct Columns {
     pub src: [u32; MOST_MOVES],
     pub dst: [u32; MOST_MOVES],
@@ -166,7 +167,7 @@ fn moves_ok(src: &[u32], dst: &[u32], n: usize) -> bool
 
 // Are there no more than 190 moves, and is the used length within buffers of so many ops and spans?
 fn few_enough(count: usize, used: usize, ops: usize, spans: usize) -> bool
-    ensures { result ≡ pick (leb count most_moves) (pick (leb used ops) (pick (leb used spans) (leb used most_of_akind) Bool.false) Bool.false) Bool.false }
+    ensures { result ≡ pick (leb count most_moves) (pick (leb used ops) (pick (leb used spans) (leb used most_of_a_kind) Bool.false) Bool.false) Bool.false }
 {
     if MOST_MOVES < count {
         return false;

@@ -1,5 +1,6 @@
 // Replays lists of moves whose ops came from the Rust: the file stdin, made by tools/vectors with the commit's own `emit_parallel_move`. What stands
 // in its rows is said at the top of oracle/vectors/src/moves.rs.
+#![tactic(auto)]
 ghost use Rattle.std.specs.Prelude.{◌≡◌, ◌≤◌};
 ghost use Rattle.moves_entry.specs.Entry.{answer_number, used_for};
 
@@ -11,7 +12,7 @@ const WIDTH: usize = 16;
 const ROOM: usize = 1024;
 
 // Document 01's number, and the new used length.
-#[derive(Drop)]
+#[derive(Clone, Copy)]
 struct Answer {
     number: u64,
     used: u64,

@@ -1,4 +1,6 @@
 // Names that stand one behind the other as bytes, a semicolon at the end of each, and those of the ops.
+#![tactic(auto)]
+
 ghost use Rattle.std.specs.Prelude.{◌≤◌, length};
 
 // Each op and its fields a, b, c and w by name, in the order of the opcodes. A semicolon ends each name.
@@ -69,7 +71,7 @@ pub const NAMES: [u8; 1142] = *b"\
 const SEPARATOR: u8 = b';';
 
 // Where a name starts and ends among the others.
-#[derive(Drop)]
+#[derive(Clone, Copy)]
 pub struct Name {
     pub from: usize,
     pub end: usize,

@@ -1,6 +1,10 @@
 // Prints the page docs/OPS.md. Which fields an op uses is op's proved table; the names are opnames'.
-use libc::STDOUT_FILENO;
+#![tactic(auto)]
+
 use opnames::NAMES;
+
+// The number of standard output.
+const STDOUT_FILENO: i32 = 1;
 
 fn write(text: &[u8]) {
     io::write_all(STDOUT_FILENO, text);

@@ -1,4 +1,6 @@
 // One function behind the program: its own entry in the function table, then its ops.
+#![tactic(auto)]
+
 ghost use Rattle.std.specs.Prelude.{◌≡◌, ◌*◌, take};
 ghost use Rattle.place.specs.Registers.{registers};
 ghost use Rattle.input.specs.Layout.{values};

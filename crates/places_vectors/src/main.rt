@@ -3,6 +3,8 @@
 // many words the function table has, each of these, low half first; the number that comes back, 0 or 8; and if that is 0: the slots made, one
 // past the highest general register used, how many values there are, the map word of each. Each function gets its places in buffers with
 // exactly a word for each value, and is refused where one of the three is a word short.
+#![tactic(auto)]
+
 ghost use Rattle.std.specs.Prelude.{◌+◌, ◌≤◌, ◌<◌, length};
 
 use placing::Placing;
@@ -18,7 +20,7 @@ const MOST_VALUES: usize = 512;
 const LENT: u32 = 999;
 
 // What a call should answer: document 01's number, the slots made, one past the highest general register; and how many map words it gives.
-#[derive(Drop)]
+#[derive(Clone, Copy)]
 struct Answer {
     number: u32,
     slots: u32,
@@ -28,7 +30,7 @@ struct Answer {
 
 // How many values a function has, and whether all is as the Rust has it; not whole where the file ends too early, or a function is larger
 // than the buffers.
-#[derive(Drop)]
+#[derive(Clone, Copy)]
 struct Replayed {
     values: usize,
     same: bool,

@@ -1,4 +1,5 @@
 // Judging a function and giving its places, without compiling it.
+#![tactic(auto)]
 ghost use Rattle.std.specs.Prelude.{◌≡◌, true, List, ℕ, eqb, take};
 ghost use Rattle.std.proofs.lemmas.List.Edits.{sets};
 ghost use Rattle.base.specs.Buffers.{zero_from};
@@ -14,7 +15,7 @@ ghost use Rattle.placing.specs.Placing.{room_ok, outcome, outcome_of, PlacesTrie
 use alloc::Alloc;
 use judge::Verdict;
 
-#[derive(Drop)]
+#[derive(Clone, Copy)]
 pub enum Placing {
     // slots made, and one past the highest general register used
     Given(u16, u8),
@@ -124,7 +125,7 @@ pub fn places(
 }
 
 // The number of the refusal, 0 for none; slots made, and one past the highest general register used.
-#[derive(Drop)]
+#[derive(Clone, Copy)]
 pub struct Placed {
     pub number: u8,
     pub slots: u8,

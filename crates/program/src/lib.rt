@@ -1,4 +1,6 @@
 // What a program is made of, as words of lent buffers.
+#![tactic(auto)]
+
 ghost use Rattle.std.specs.Prelude.{◌≡◌, ◌<◌};
 ghost use Rattle.program.specs.Functions.{function_kind, function_number, function_at, bytecode};
 

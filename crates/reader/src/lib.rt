@@ -1,16 +1,17 @@
 // A view over the words of a function: a slice and a position in it. Functions over the struct are thin, and call one on the slice and the position.
+#![tactic(auto)]
 ghost use Rattle.std.specs.Prelude.{◌≡◌, ltb, length};
 ghost use Rattle.base.specs.Choice.{pick};
 ghost use Rattle.reader.specs.Reader.{step_at, step_number};
 
-#[derive(Drop)]
+#[derive(Clone, Copy)]
 pub struct Reader<'a> {
     pub words: &'a [u32],
     pub at: usize,
 }
 
 // The word at a position, or the end.
-#[derive(Drop)]
+#[derive(Clone, Copy)]
 pub enum Step {
     Word(u32),
     End,

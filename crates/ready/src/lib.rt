@@ -1,1 +1,2 @@
 // No code: what the checks leave to be known.
+#![tactic(auto)]

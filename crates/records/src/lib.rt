@@ -1,15 +1,20 @@
 // The file of a program that replays test vectors, record by record, and the tally.
 // Its words are u32, least byte first. The first says how many calls there are. Then come records, each with the number of its words in front. Word 0
 // of a record says where its rows start; they stand one behind the other up to its end, a call each, as wide as the program says.
+#![tactic(auto)]
+
 ghost use Rattle.std.specs.Prelude.{◌≡◌, length};
 
-use libc::{STDIN_FILENO, STDOUT_FILENO};
+// The numbers of standard input and output.
+const STDIN_FILENO: i32 = 0;
+
+const STDOUT_FILENO: i32 = 1;
 
 // Counts are of numbers up to this.
 const MOST: usize = 1000000000;
 
 // The row of a call, and where its record ends; how many records and calls there were, and how many calls differ.
-#[derive(Drop)]
+#[derive(Clone, Copy)]
 pub struct Replay {
     pub row: usize,
     end: usize,

@@ -1,12 +1,17 @@
 // What the programs that replay test vectors share: the words of a text, and buffers held against them.
 // A row of the text has numbers, and lists: where a list starts, how many entries it has, and, for what a buffer should hold, the entry that stands
 // everywhere behind them.
+#![tactic(auto)]
+
 ghost use Rattle.std.specs.Prelude.{◌≡◌, ◌<◌, ◌≤◌, ◌+◌, min, length, get_or, eqb};
 ghost use Rattle.std.proofs.lemmas.List.Edits.{sets};
 ghost use Rattle.base.specs.Choice.{pick};
 ghost use Rattle.replay.specs.Words.{word_at, wide_at, word_in, wide_in, entries, alike, listed, narrow_list, wide_list, narrow_entry, wide_entry};
 
-use libc::{STDIN_FILENO, STDOUT_FILENO};
+// The numbers of standard input and output.
+const STDIN_FILENO: i32 = 0;
+
+const STDOUT_FILENO: i32 = 1;
 
 fn byte(bytes: &[u8], at: usize) -> u32
     requires { at < length bytes.now }

@@ -1,1 +1,2 @@
 // Rows are a definition: specs/Rows.antt. Laws of loops over them stand in proofs/.
+#![tactic(auto)]

@@ -9,7 +9,7 @@ use borrow.Author.Tests.{leb-true, le-leb, lt-leb, ne_eqb}
 use lib.Dec.{leb}
 use lib.ListN.{length, take, drop}
 use lib.Seq.{sets, length-sets, length-take-le, take_at}
-use Rattle.base.specs.Limits.{most_of_akind}
+use Rattle.base.specs.Limits.{most_of_a_kind}
 use Rattle.base.proofs.Lists.{sets-front}
 use Rattle.grow.specs.declared.End.{End}
 use Rattle.grow.specs.Growing.{Grown, Grows}
@@ -23,11 +23,11 @@ use Rattle.strings.specs.Strings.{functions_in, first_unfit, all_strings, string
 -- the used length passes neither its buffer nor the most
 pub record Within (globals : List ℕ) (used : ℕ) : Type 0 where
   pub in_buffer : 2 * used ≤ length globals
-  pub in_all : used ≤ most_of_akind
+  pub in_all : used ≤ most_of_a_kind
 
 pub within : (globals : List ℕ) (used : ℕ) → used_ok globals used ≡ true → Within globals used
 within globals used e =
-    let p = both-parts (leb (2 * used) (length globals)) (leb used most_of_akind) e in
+    let p = both-parts (leb (2 * used) (length globals)) (leb used most_of_a_kind) e in
     record { in_buffer = leb-true _ _ p.0; in_all = leb-true _ _ p.1 }
 
 -- a first unfit function whose number is none of three is none

@@ -1,4 +1,5 @@
 // The strings of a list of functions among the globals.
+#![tactic(auto)]
 ghost use Rattle.std.specs.Prelude.{◌≡◌, true, ◌-◌, min, max, leb, length, take, drop};
 ghost use Rattle.base.specs.Choice.{pick};
 ghost use Rattle.grow.specs.Growing.{Grows};
@@ -10,7 +11,7 @@ ghost use Rattle.strings.specs.Strings.{functions_in, is_used, unfit_string, fir
 use grow::End;
 use judge::Verdict;
 
-#[derive(Drop)]
+#[derive(Clone, Copy)]
 pub enum Strings {
     // how many globals there are
     Done(usize),
@@ -56,7 +57,7 @@ fn lesser(n: usize, m: usize) -> usize
 }
 
 // Where a part of so many words starts, and ends.
-#[derive(Drop)]
+#[derive(Clone, Copy)]
 struct Bounds {
     from: usize,
     end: usize,
@@ -85,7 +86,7 @@ fn unfit_part(words: &[u32], from: usize, end: usize) -> u8
 }
 
 // The first unfit function of a list; its number is 0 where there is none.
-#[derive(Drop)]
+#[derive(Clone, Copy)]
 struct Unfit {
     number: u8,
     index: usize,

@@ -1,4 +1,5 @@
 // The keys and slots of a table, and the tables of switches.
+#![tactic(auto)]
 ghost use Rattle.std.specs.Prelude.{◌≡◌, ◌+◌, ◌-◌, ◌%◌, ◌^◌, ◌<◌, ◌≤◌, [], ◌∷◌, ◌++◌, replicate, slice_set};
 ghost use Rattle.base.specs.Choice.{pick};
 ghost use Rattle.grow.specs.Growing.{Grows};
@@ -15,7 +16,7 @@ use grow::End;
 const SWITCH: u32 = 7;
 
 // The least rank of a table's keys, and how many slots it has.
-#[derive(Drop)]
+#[derive(Clone, Copy)]
 pub struct Range {
     pub low: u64,
     pub slots: usize,
@@ -72,7 +73,7 @@ pub fn put_head(heads: &mut [u64], e: End, k: Range, start: usize) -> End
 }
 
 // The end of a list of tables, and where the slots of the next start.
-#[derive(Drop)]
+#[derive(Clone, Copy)]
 pub struct Slots {
     pub end: End,
     pub start: usize,
@@ -224,7 +225,7 @@ fn block_cases(
 }
 
 // The end of the targets, where the slots of the next table start, and the label of the next pad.
-#[derive(Drop)]
+#[derive(Clone, Copy)]
 struct Cases {
     end: End,
     start: usize,

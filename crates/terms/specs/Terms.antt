@@ -6,7 +6,7 @@ use Rattle.op.specs.declared.Op.{Op}
 use Rattle.op.specs.Words.{word}
 use Rattle.op.specs.Ops as op
 use Rattle.input.specs.Layout.{blocks, pool_at}
-use Rattle.input.specs.Records as in_words_lem
+use Rattle.input.specs.Records as in_words
 use Rattle.input.specs.Records.{term_kind, term_span, term_operands_at, term_operand_count, term_operands, first_edge, term_x, term_y}
 use Rattle.lower.specs.Operands.{place_at, operand}
 use Rattle.calls.specs.Calls.{lower_tail}
@@ -29,10 +29,10 @@ branch_by n ws places next b jump = branch n ws places jump (blocks ws + b) next
 
 unfoldable pub branch_ops : ℕ → List ℕ → List ℕ → ℕ → ℕ → Out → Out
 branch_ops n ws places next b =
-    pick (eqb (term_kind ws b) in_words_lem.branch) (operand n (term_place ws places b 0) (λ c. branch_by n ws places next b (op.jmp_f c 0)))
-    (pick (eqb (term_kind ws b) in_words_lem.branch_cmp_imm)
+    pick (eqb (term_kind ws b) in_words.branch) (operand n (term_place ws places b 0) (λ c. branch_by n ws places next b (op.jmp_f c 0)))
+    (pick (eqb (term_kind ws b) in_words.branch_cmp_imm)
     (operand n (term_place ws places b 0) (λ l. branch_by n ws places next b (op.jmp_ne_i l (term_y ws b) 0)))
-    (operand n (term_place ws places b 0) (λ l. operand n (term_place ws places b 1) (λ r. branch_by n ws places next b (op.jmp_sne l r 0)))))
+    (operand n (term_place ws places b 0) (λ l. operand n (term_place ws places b 1) (λ r. branch_by n ws places next b (op.jmp_s_ne l r 0)))))
 
 -- Switch, with the number of its table, and the label of its first pad
 unfoldable pub switch_ops : ℕ → List ℕ → List ℕ → ℕ → ℕ → ℕ → ℕ → Out → Out
@@ -43,11 +43,11 @@ switch_ops n ws places table label next b =
 -- A terminator by its kind. Where there is none, it has no span either.
 unfoldable pub term_ops : ℕ → Env → ℕ → ℕ → ℕ → ℕ → Out → Out
 term_ops n env table label next b o =
-    pick (eqb (term_kind env.ws b) in_words_lem.no_term) o
-    (pick (eqb (term_kind env.ws b) in_words_lem.return) (return_ops n env.ws env.places b)
-    (pick (eqb (term_kind env.ws b) in_words_lem.jump) (edge n env.ws env.places next (first_edge env.ws b))
-    (pick (eqb (term_kind env.ws b) in_words_lem.tail_call)
+    pick (eqb (term_kind env.ws b) in_words.no_term) o
+    (pick (eqb (term_kind env.ws b) in_words.return) (return_ops n env.ws env.places b)
+    (pick (eqb (term_kind env.ws b) in_words.jump) (edge n env.ws env.places next (first_edge env.ws b))
+    (pick (eqb (term_kind env.ws b) in_words.tail_call)
     (lower_tail n env.places (term_operands env.ws b) (get_or env.functions (term_x env.ws b) 0))
-    (pick (eqb (term_kind env.ws b) in_words_lem.switch) (switch_ops n env.ws env.places table label next b)
+    (pick (eqb (term_kind env.ws b) in_words.switch) (switch_ops n env.ws env.places table label next b)
     (branch_ops n env.ws env.places next b))))
     (at_span (term_span env.ws b) o))

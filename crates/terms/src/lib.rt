@@ -1,4 +1,6 @@
 // Terminators: each by its kind.
+#![tactic(auto)]
+
 ghost use Rattle.std.specs.Prelude.{◌≡◌, List, ℕ, ◌+◌, ◌≤◌, ◌<◌};
 ghost use Rattle.base.specs.Lent.{Lowers};
 ghost use Rattle.place.specs.Registers.{registers};
@@ -75,7 +77,7 @@ fn jump_ne_i(lhs: u8, imm: u32) -> Op
 }
 
 fn jump_s_ne(lhs: u8, rhs: u8) -> Op
-    ensures { result ≡ ops-by-name.jmp_sne lhs rhs 0 }
+    ensures { result ≡ ops-by-name.jmp_s_ne lhs rhs 0 }
 {
     Op {
         code: 11,

@@ -1,12 +1,12 @@
 -- Used lengths of a program's lists, and the labels that a function may have.
 use Rattle.std.specs.Prelude.{ℕ, ◌+◌, ◌*◌, min, Bool, List, map, leb, ltb, get_or}
-use Rattle.base.specs.Limits.{most_of_akind}
+use Rattle.base.specs.Limits.{most_of_a_kind}
 use Rattle.input.specs.Layout.{blocks, edges}
 use Rattle.input.specs.Forms.{both}
 
 -- So many records of so many words each are used of a buffer that has `size` words; there are at most 65,534 of a kind.
 abbrev pub within : ℕ → ℕ → ℕ → Bool
-within words used size = both (leb (words * used) size) (leb used most_of_akind)
+within words used size = both (leb (words * used) size) (leb used most_of_a_kind)
 
 -- slots of tables are counted in 32 bits
 abbrev pub slots_within : ℕ → ℕ → ℕ → Bool

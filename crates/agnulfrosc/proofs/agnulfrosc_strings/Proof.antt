@@ -29,7 +29,7 @@ returns c =
     let i = c.before.before.before.before.before.before.before.intern-strings in
     let s = c.before.before.before.before.strings-numbers.ensures in
     interned-then registers a.words.now a.ends.now a.globals.now a.answer.now i.result _ c.before.before.before.before.before.before.before.before.before.get64.ensures _ i.ensures
-    _ s.0 _ s.1 _ s.2 _ c.before.before.IsStore-both.ensures
+    _ s.0 _ s.1 _ s.2 _ c.before.before.store_both.ensures
 
 pub agnulfrosc-strings-spec : {M : Type 1} → statement M
 agnulfrosc-strings-spec =

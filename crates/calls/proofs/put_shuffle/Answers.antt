@@ -1,0 +1,11 @@
+-- The moves of the gathered columns.
+use Rattle.place.specs.Registers.{registers}
+use Rattle.input.specs.Layout.{list_at}
+use Rattle.calls.proofs.Shuffling.{shuffled}
+use Rattle.calls.proofs.put_shuffle.Goals as goal
+
+pub returns : goal.returns
+returns c =
+    let a = c.args in
+    let g = c.gather_arguments-n.ensures in
+    λ l. shuffled registers a.map.now a.pushes (list_at a.ws.now a.at a.count) _ _ g.1 g.2 (c.put_moves.ensures l)

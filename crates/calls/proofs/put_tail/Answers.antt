@@ -1,0 +1,24 @@
+-- The shuffle, then Tail, or the op that calls and Ret.
+use Prim.Native.Nat.{ℕ, ◌+◌, ◌<◌}
+use native.Mathlib.Omega.{arith}
+use Rattle.place.specs.Registers.{registers}
+use Rattle.input.specs.Layout.{pool_at}
+use Rattle.calls.proofs.Calling.{tail_taken, tail-called}
+use Rattle.calls.proofs.put_tail.Goals as goal
+
+pub put_shuffle-ready-requires : goal.put_shuffle-ready-requires
+put_shuffle-ready-requires c =
+    let a = c.args in
+    (c.requires, λ (i : ℕ) (h : i < a.count). omega (arith, c.type_inv.map (pool_at a.ws.now (a.at + i))))
+
+pub returns-then-takes_over : goal.returns-then-takes_over
+returns-then-takes_over c =
+    let a = c.args in
+    λ l. tail_taken registers a.ws.now a.map.now a.at a.count a.f (c.put_shuffle-ready.ensures l) c.takes_over.ensures c.if-takes_over.true
+    c.number_of.ensures c.tail.ensures (c.put.ensures l)
+
+pub returns : goal.returns
+returns c =
+    let a = c.args in
+    λ l. tail-called registers a.ws.now a.map.now a.at a.count a.f (c.put_shuffle-ready.ensures l) c.takes_over.ensures c.if-takes_over.false
+    c.called_as.ensures c.ret.ensures (c.put-called.ensures l) (c.put-2.ensures l)

@@ -1,0 +1,28 @@
+-- The pairs that are left answer for all of them.
+use mathlib.Core.Path.{sym, ◌∙◌}
+use Prim.Native.Nat.{◌-◌}
+use Rattle.edges.proofs.Moved.{some-start, some-here, some-later, some_none}
+use Rattle.edges.proofs.any_moved.Goals as goal
+
+pub loop-j-init : goal.loop-j-init
+loop-j-init c = let a = c.args in some-start a.ws.now a.map.now a.at a.to a.n
+
+pub returns-then-is_moved : goal.returns-then-is_moved
+returns-then-is_moved c =
+    let a = c.args in
+    let l = c.loop-j in
+    some-here a.ws.now a.map.now a.at a.to a.n l.j c.loop-j-test.true
+    (sym (rw (c.pool_at-a.ensures, c.pool_at-p.ensures) at c.is_moved.ensures) ∙ c.if-is_moved.true) l.invariant
+
+pub loop-j-preserved : goal.loop-j-preserved
+loop-j-preserved c =
+    let a = c.args in
+    let l = c.loop-j in
+    some-later a.ws.now a.map.now a.at a.to a.n l.j c.loop-j-test.true
+    (sym (rw (c.pool_at-a.ensures, c.pool_at-p.ensures) at c.is_moved.ensures) ∙ c.if-is_moved.false) l.invariant
+
+pub returns : goal.returns
+returns c =
+    let a = c.args in
+    let l = c.loop-j in
+    some_none a.ws.now a.map.now a.at a.to a.n l.j c.loop-j-test.false l.invariant

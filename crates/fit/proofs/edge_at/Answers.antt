@@ -1,0 +1,7 @@
+-- The word at the table's start, the record's place in it, and the field's in that.
+use Rattle.input.specs.Layout.{edge_field}
+use Rattle.fit.proofs.edge_at.Goals as goal
+
+pub returns : goal.returns
+unfolding edge_field
+returns c = cc

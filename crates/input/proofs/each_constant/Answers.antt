@@ -1,0 +1,18 @@
+-- The invariant: the records from i on decide of all n.
+use mathlib.Core.Path.{refl, sym, ◌∙◌}
+use Prim.Native.Nat.{◌-◌}
+use Rattle.input.specs.Forms.{constant_ok}
+use Rattle.input.proofs.Each.{left_all, left-turn, left-stop, left-done}
+use Rattle.input.proofs.each_constant.Goals as goal
+
+pub loop-i-init : goal.loop-i-init
+loop-i-init c = left_all _ refl
+
+pub returns-then-not-constant_ok : goal.returns-then-not-constant_ok
+returns-then-not-constant_ok c = sym (left-stop c.loop-i.invariant c.loop-i-test.true (sym c.constant_ok.ensures ∙ c.if-not-constant_ok.true))
+
+pub loop-i-preserved : goal.loop-i-preserved
+loop-i-preserved c = left-turn c.loop-i.invariant c.loop-i-test.true (sym c.constant_ok.ensures ∙ c.if-not-constant_ok.false)
+
+pub returns : goal.returns
+returns c = sym (left-done c.loop-i.invariant c.loop-i-test.false)

@@ -1,0 +1,23 @@
+-- The constant's rows are the definition's list cut into rows of five, and past its end both are 0.
+use mathlib.Core.Path.{sym}
+use Prim.Native.Nat.{◌+◌, ◌*◌, ◌≤◌}
+use native.Mathlib.Omega.{arith}
+use borrow.Author.Rules.{rules}
+use lib.ListN.{get_or-eq_default}
+use Rattle.input.specs.Forms.{instr_forms}
+use Rattle.input.proofs.Rows.{row_field}
+use Rattle.input.proofs.instr_form.Goals as goal
+
+-- OLD index-1-result : tie.Need-bounds-1-result
+-- index-1-result c = search rules
+
+-- OLD index-2-result : tie.Need-bounds-2-result
+-- index-2-result c = search rules
+
+pub returns-then-kind-lt13 : goal.returns-then-kind-lt13
+unfolding instr_forms
+returns-then-kind-lt13 c = row_field 5 13 instr_forms _ _ c.if-kind-lt13.true c.requires
+
+pub returns-else-kind-lt13 : goal.returns-else-kind-lt13
+unfolding instr_forms
+returns-else-kind-lt13 c = let h : 65 ≤ 5 * c.args.kind + c.args.k = omega arith in sym (get_or-eq_default instr_forms 0 h)

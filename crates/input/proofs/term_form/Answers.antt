@@ -1,0 +1,23 @@
+-- The constant's rows are the definition's list cut into rows of six, and past its end both are 0.
+use mathlib.Core.Path.{sym}
+use Prim.Native.Nat.{◌+◌, ◌*◌, ◌≤◌}
+use native.Mathlib.Omega.{arith}
+use borrow.Author.Rules.{rules}
+use lib.ListN.{get_or-eq_default}
+use Rattle.input.specs.Forms.{term_forms}
+use Rattle.input.proofs.Rows.{row_field}
+use Rattle.input.proofs.term_form.Goals as goal
+
+-- OLD index-1-result : tie.Need-bounds-1-result
+-- index-1-result c = search rules
+
+-- OLD index-2-result : tie.Need-bounds-2-result
+-- index-2-result c = search rules
+
+pub returns-then-kind-lt8 : goal.returns-then-kind-lt8
+unfolding term_forms
+returns-then-kind-lt8 c = row_field 6 8 term_forms _ _ c.if-kind-lt8.true c.requires
+
+pub returns-else-kind-lt8 : goal.returns-else-kind-lt8
+unfolding term_forms
+returns-else-kind-lt8 c = let h : 48 ≤ 6 * c.args.kind + c.args.k = omega arith in sym (get_or-eq_default term_forms 0 h)

@@ -1,0 +1,48 @@
+-- The chain of the definition at the kind that was found.
+use mathlib.Core.Path.{sym, ◌∙◌}
+use native.Mathlib.Omega.{arith}
+use Rattle.place.specs.Registers.{registers}
+use Rattle.input.specs.Forms.{instr_forms}
+use Rattle.lower.specs.Instructions.{lower_alloc, lower_store, lower_load, lower_addr_of}
+use Rattle.instrs.specs.Instrs.{memory_ops}
+use Rattle.instr_runs.proofs.Chosen.{of_3, of_4, memory_none, x_most, z_most}
+use Rattle.instr_runs.proofs.put_memory.Goals as goal
+
+pub overflow_cast-x : goal.overflow_cast-x
+unfolding instr_forms
+overflow_cast-x c = omega (arith, x_most _ _ 6 c.requires c.instr_field-kind.ensures c.if-kind-eq-ALLOC.true c.instr_field-x.ensures)
+
+pub overflow_cast-z : goal.overflow_cast-z
+unfolding instr_forms
+overflow_cast-z c = omega (arith, z_most _ _ 6 c.requires c.instr_field-kind.ensures c.if-kind-eq-ALLOC.true c.instr_field-z.ensures)
+
+pub returns-then-kind-eq-ALLOC : goal.returns-then-kind-eq-ALLOC
+unfolding memory_ops
+returns-then-kind-eq-ALLOC c =
+    λ l.
+    rw (sym c.instr_field-kind.ensures ∙ c.if-kind-eq-ALLOC.true)
+    (of_4 (lower_alloc registers) c.dest_place-d.ensures c.instr_field-x.ensures c.instr_field-y.ensures c.instr_field-z.ensures (c.put_alloc.ensures l))
+
+pub returns-then-kind-eq-STORE : goal.returns-then-kind-eq-STORE
+unfolding memory_ops
+returns-then-kind-eq-STORE c =
+    λ l.
+    rw (sym c.instr_field-kind.ensures ∙ c.if-kind-eq-STORE.true)
+    (of_3 (lower_store registers) c.operand_place-a.ensures c.operand_place-b.ensures c.instr_field-y.ensures (c.put_store_to.ensures l))
+
+pub returns-then-kind-eq-LOAD : goal.returns-then-kind-eq-LOAD
+unfolding memory_ops
+returns-then-kind-eq-LOAD c =
+    λ l.
+    rw (sym c.instr_field-kind.ensures ∙ c.if-kind-eq-LOAD.true)
+    (of_3 (lower_load registers) c.dest_place-d.ensures c.operand_place-a.ensures c.instr_field-y.ensures (c.put_load.ensures l))
+
+pub returns-then-kind-eq-ADDR_OF : goal.returns-then-kind-eq-ADDR_OF
+unfolding memory_ops
+returns-then-kind-eq-ADDR_OF c =
+    λ l.
+    rw (sym c.instr_field-kind.ensures ∙ c.if-kind-eq-ADDR_OF.true)
+    (of_3 (lower_addr_of registers) c.dest_place-d.ensures c.operand_place-a.ensures c.instr_field-y.ensures (c.put_addr_of.ensures l))
+
+pub returns : goal.returns
+returns c = λ l. memory_none _ _ _ _ _ c.instr_field-kind.ensures (c.if-kind-eq-ALLOC.false, c.if-kind-eq-STORE.false, c.if-kind-eq-LOAD.false, c.if-kind-eq-ADDR_OF.false)

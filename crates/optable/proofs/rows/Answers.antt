@@ -1,0 +1,10 @@
+-- The opcodes that are left grow fewer. Assumes nothing.
+use Prim.Native.Nat.{◌-◌}
+use borrow.Author.Rules.{rules}
+use Rattle.optable.proofs.rows.Goals as goal
+
+-- OLD part-write-start : tie.Need-slice-bounds-write-start invariant-loop decreases-loop
+-- part-write-start c = search rules
+
+-- OLD part-write-end : tie.Need-slice-bounds-write-end invariant-loop decreases-loop
+-- part-write-end c = search rules

@@ -1,0 +1,33 @@
+-- What is left to store gives the whole.
+use native.Mathlib.Omega.{arith}
+use Rattle.replay.proofs.Loading.{store-start, store-turn, store-end, store_length}
+use Rattle.replay.proofs.load64.Goals as goal
+
+pub loop-i-init : goal.loop-i-init
+loop-i-init c = store-start
+
+pub wide_in-requires : goal.wide_in-requires
+wide_in-requires c = tt
+
+pub set64-requires : goal.set64-requires
+set64-requires c = tt
+
+pub overflow_add-i : goal.overflow_add-i
+overflow_add-i c = omega arith
+
+pub loop-i-smaller : goal.loop-i-smaller
+loop-i-smaller c = omega arith
+
+pub loop-i-preserved : goal.loop-i-preserved
+loop-i-preserved c =
+    store-turn
+    c.loop-i.invariant
+    c.loop-i-test.true
+    c.wide_in.ensures
+    c.set64.ensures
+
+pub shape_of-to : goal.shape_of-to
+shape_of-to c = store_length c.loop-i.invariant c.loop-i-test.false
+
+pub returns : goal.returns
+returns c = store-end c.loop-i.invariant c.loop-i-test.false

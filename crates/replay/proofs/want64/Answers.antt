@@ -1,0 +1,12 @@
+-- The test that led here decides.
+use borrow.Author.Tests.{le-ltb, lt-ltb}
+use Rattle.replay.proofs.want64.Goals as goal
+
+pub wide_in-requires : goal.wide_in-requires
+wide_in-requires c = tt
+
+pub returns-then-i-used : goal.returns-then-i-used
+returns-then-i-used c = rw (lt-ltb _ _ c.if-i-used.true) c.wide_in.ensures
+
+pub returns-else-i-used : goal.returns-else-i-used
+returns-else-i-used c = rw (le-ltb _ _ c.if-i-used.false)

@@ -1,0 +1,10 @@
+-- Every word before i is right, so those from i on decide.
+use Prim.Native.Nat.{◌-◌}
+use Rattle.replay.proofs.Comparing.{LeftToCompare}
+use Rattle.replay.proofs.zeros32.Given as goal
+
+abbrev pub invariant-loop-i : goal.invariant-loop-i
+invariant-loop-i l = LeftToCompare (λ k. 0) l.n l.a l.i
+
+abbrev pub decreases-loop-i : goal.decreases-loop-i
+decreases-loop-i l = l.n - l.i
