@@ -1,4 +1,6 @@
 // The entries for other languages; include/agnulfrosc.h declares them.
+#![tactic(auto)]
+
 ghost use Rattle.std.specs.Prelude.{◌≡◌};
 ghost use Rattle.place.specs.Registers.{registers};
 ghost use Rattle.judge.specs.Judged.{unfit};

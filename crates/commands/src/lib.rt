@@ -1,6 +1,8 @@
 // The commands of agnc over the functions of a file: judging each, and compiling them one behind the other and showing the program. The words
 // are those of the functions, and each end is where one of them stops; the first starts at 0. A refusal ends the program: what was compiled
 // before it is shown. What is wrong is said on standard error.
+#![tactic(auto)]
+
 ghost use Rattle.std.specs.Prelude.{◌≤◌};
 
 use compile::Compiled;

@@ -1,5 +1,6 @@
 // Compiling one function.
 #![tactic(auto)]
+
 ghost use Rattle.std.specs.Prelude.{◌≡◌, ◌≤◌, eqb};
 ghost use Rattle.base.specs.Choice.{pick};
 ghost use Rattle.place.specs.Registers.{registers};

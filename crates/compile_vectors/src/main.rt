@@ -3,6 +3,8 @@
 // past that: the answer, the used lengths and every buffer have to be as the Rust leaves the program after it, so the next function starts where
 // this one ended. Then it is compiled again in exactly enough room, and for each buffer that it adds to in one word less, which is refused.
 // Strings that are interned before the first function stand in the globals from the beginning: another program replays the entry for them.
+#![tactic(auto)]
+
 ghost use Rattle.std.specs.Prelude.{◌≡◌, ◌≤◌, ◌<◌, length};
 ghost use Rattle.compile_vectors.specs.Lending.{Fits, WholeLists, WholeTables};
 

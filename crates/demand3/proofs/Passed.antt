@@ -13,7 +13,7 @@ use Rattle.base.specs.Limits.{most_of_a_kind}
 use Rattle.base.proofs.Numbers.{pick_true}
 use Rattle.base.proofs.Numbers as test
 use Rattle.input.specs.Layout.{function_id, values}
-use Rattle.input.specs.Forms.{both, words_ok}
+use Rattle.input.specs.Forms.{words_ok}
 use Rattle.input.proofs.Chain.{both-parts}
 use Rattle.judge.specs.Judged.{unfit}
 use Rattle.assign.specs.Walk.{slots_ok}

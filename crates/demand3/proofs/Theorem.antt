@@ -9,7 +9,7 @@ use lib.Seq.{length-take-le}
 use Rattle.base.specs.Emission.{Out}
 use Rattle.machine.specs.Machine.{State, World, run_words}
 use Rattle.machine.specs.Calls.{Kind}
-use Rattle.input.specs.Layout.{head_field, function_id, function_span, blocks, edges, pool_from}
+use Rattle.input.specs.Layout.{head_field, function_id, function_span, pool_from}
 use Rattle.input.specs.Records.{first_instr, instr_count, destination}
 use Rattle.judge.specs.declared.Verdict.TheVariants.{Fit}
 use Rattle.judge.proofs.Verdicts.{AllPass, fit-given}

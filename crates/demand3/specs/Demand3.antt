@@ -1,5 +1,5 @@
 -- Demand 3 of the request, of what `compile` emits: of every function that it answers Done for, on a machine with n registers, n from 22 to 64.
-use Rattle.std.specs.Prelude.{◌≡◌, ◌≢◌, ℕ, suc, ◌+◌, ◌*◌, ◌-◌, ◌≤◌, ◌<◌, List, ◌∷◌, ◌++◌, length, get_or, take}
+use Rattle.std.specs.Prelude.{◌≡◌, ◌≢◌, ℕ, suc, ◌+◌, ◌*◌, ◌≤◌, ◌<◌, List, ◌∷◌, ◌++◌, length, get_or, take}
 use Rattle.op.specs.Words.{word}
 use Rattle.op.specs.Ops as op
 use Rattle.machine.specs.Machine.{State, World, run_words, holds}

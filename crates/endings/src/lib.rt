@@ -1,5 +1,6 @@
 // How compiling ends: labels in tables become pcs, and what stands behind the old used lengths of a refused function is zeroed.
 #![tactic(auto)]
+
 ghost use Rattle.std.specs.Prelude.{◌≡◌, ℕ, ◌*◌, ◌-◌, ◌≤◌, ◌<◌, ◌++◌, length, get_or, take, drop};
 ghost use Rattle.lists.specs.Lists.{global_words, switch_words, lookup_words, value_words};
 ghost use Rattle.used.specs.Used.{labels_at};

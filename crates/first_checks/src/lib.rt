@@ -1,5 +1,6 @@
 // What compiling judges before it writes anything: words, used lengths, refusals 1 to 7, labels and an entry in the function table.
 #![tactic(auto)]
+
 ghost use Rattle.std.specs.Prelude.{◌≡◌, eqb};
 ghost use Rattle.base.specs.Choice.{pick};
 ghost use Rattle.place.specs.Registers.{registers};

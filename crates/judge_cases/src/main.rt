@@ -3,6 +3,8 @@
 // function table, the used lengths and what stands before them as they were, 0 behind them and in places and work room.
 // The file's words are u32, least byte first. The first says how many cases there are. A case: the number that judging has to answer, how many
 // words the function table has, each of these, low half first, how many words the function has, and these.
+#![tactic(auto)]
+
 ghost use Rattle.std.specs.Prelude.{◌≡◌, ◌+◌, ◌≤◌, ◌<◌, length};
 ghost use Rattle.judge.specs.Judged.{verdict_number};
 

@@ -1,5 +1,5 @@
 -- The lists that the functions of a program share: what a function adds to each behind its used length, and whether that finds room.
-use Rattle.std.specs.Prelude.{◌≡◌, Bool, ℕ, ◌+◌, ◌*◌, ◌/◌, ◌≤◌, ◌<◌, min, List, leb, eqb, length, take}
+use Rattle.std.specs.Prelude.{◌≡◌, Bool, ℕ, ◌*◌, ◌/◌, ◌≤◌, ◌<◌, min, List, leb, eqb, length, take}
 use Rattle.std.proofs.lemmas.List.Edits.{sets}
 use Rattle.base.specs.Choice.{pick}
 use Rattle.base.specs.Limits.{most_of_a_kind}

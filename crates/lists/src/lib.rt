@@ -1,5 +1,6 @@
 // The lists that the functions of a program share.
 #![tactic(auto)]
+
 ghost use Rattle.std.specs.Prelude.{◌≡◌, false, not, ◌*◌, ◌/◌, ◌≤◌, min};
 ghost use Rattle.base.specs.Limits.{most_of_a_kind};
 ghost use Rattle.base.specs.Choice.{pick};

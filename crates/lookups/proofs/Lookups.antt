@@ -1,7 +1,7 @@
 -- Lookup tables: each instruction's head or slots in turn, block by block, and each entry of a table.
 use mathlib.Core.Path.{◌≡◌, refl, sym, ap, ◌∙◌}
 use mathlib.Core.Bool.{Bool, true, false}
-use Prim.Native.Nat.{ℕ, zero, suc, ◌+◌, ◌*◌, ◌-◌, ◌%◌, ◌^◌, ◌≤◌, ◌<◌}
+use Prim.Native.Nat.{ℕ, suc, ◌+◌, ◌*◌, ◌-◌, ◌%◌, ◌^◌, ◌≤◌, ◌<◌}
 use mathlib.Core.List.{List, [], ◌∷◌, ◌++◌, append-nil, append_assoc}
 use native.Mathlib.Omega.{arith}
 use native.Mathlib.Nat.{add-zero}
@@ -13,7 +13,7 @@ use Rattle.grow.specs.declared.End.{End}
 use Rattle.grow.specs.Growing.{Grows}
 use Rattle.grow.proofs.Growing.{Left, left_as, left-turn, left_end, none, then, renamed}
 use Rattle.input.specs.Records.{is_live, first_instr, instr_count, instr_kind, instr_x, instr_y, lookup, constant_kind, payload_of}
-use Rattle.fit.specs.Keys.{keys_at, ranked, largest, smallest}
+use Rattle.fit.specs.Keys.{ranked, smallest}
 use Rattle.ready.specs.Ready.{Ready, Live, KeysReady}
 use Rattle.tables.specs.Tables.{first_key, slot_count, slot_for, entry_keys, default_of, lookup_head, filled, store_entries, lookup_slots, lookup_heads, lookup_values, slots_in, blocks_heads, blocks_values}
 

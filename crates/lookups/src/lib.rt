@@ -1,5 +1,6 @@
 // The tables of lookups.
 #![tactic(auto)]
+
 ghost use Rattle.std.specs.Prelude.{◌≡◌, [], ◌∷◌, ◌++◌, ℕ, ◌+◌, ◌*◌, ◌%◌, ◌^◌, ◌<◌, ◌≤◌, eqb, set};
 ghost use Rattle.base.specs.Choice.{pick};
 ghost use Rattle.grow.specs.Growing.{Grows};

@@ -1,5 +1,6 @@
 // The strings of a list of functions among the globals.
 #![tactic(auto)]
+
 ghost use Rattle.std.specs.Prelude.{◌≡◌, true, ◌-◌, min, max, leb, length, take, drop};
 ghost use Rattle.base.specs.Choice.{pick};
 ghost use Rattle.grow.specs.Growing.{Grows};

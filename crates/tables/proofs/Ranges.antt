@@ -1,5 +1,5 @@
 -- The least and the greatest rank of a table's keys, and what is known of them and of the keys between.
-use Rattle.std.proofs.Common.{◌≡◌, ℕ, zero, suc, ◌+◌, ◌-◌, ◌*◌, ◌^◌, ◌<◌, ◌≤◌, min, max, List, [], ◌∷◌, sym, refl, ap, ◌∙◌, mul-zero, mul-suc, arith}
+use Rattle.std.proofs.Common.{◌≡◌, ℕ, zero, suc, ◌+◌, ◌-◌, ◌*◌, ◌<◌, ◌≤◌, min, max, List, ap, mul-zero, mul-suc, arith}
 use Rattle.fit.specs.Keys.{keys_at, ranked, largest, smallest}
 use Rattle.fit.proofs.Ranks.{smallest_most}
 use Rattle.ready.specs.Ready.{KeysReady}

@@ -6,8 +6,8 @@ use Rattle.grow.specs.declared.End.{End}
 use Rattle.grow.specs.Growing.{Grows}
 use Rattle.grow.proofs.Growing.{Left, left_as, left-turn, left_end, none, then, renamed}
 use Rattle.input.specs.Layout.{blocks}
-use Rattle.input.specs.Records.{tombstone, is_live, term_kind, term_x, term_y, first_edge, edge_count, edge_target, switch}
-use Rattle.fit.specs.Keys.{keys_at, ranked, largest, smallest}
+use Rattle.input.specs.Records.{tombstone, is_live, term_kind, term_x, term_y, first_edge, edge_target, switch}
+use Rattle.fit.specs.Keys.{ranked, smallest}
 use Rattle.ready.specs.Ready.{Ready, Live, KeysReady}
 use Rattle.edges.specs.Edges.{has_moves, pad_count}
 use Rattle.tables.specs.Tables.{first_key, slot_count, slot_for, case_keys, switch_head, store_cases, switch_slots, has_switch, switch_heads, switch_targets}

@@ -1,5 +1,6 @@
 // Used lengths: which pass a buffer, how many labels a function may have, a pen behind the used ops.
 #![tactic(auto)]
+
 ghost use Rattle.std.specs.Prelude.{◌≡◌, ◌≤◌};
 ghost use Rattle.used.specs.Used.{within, slots_within, labels_for};
 ghost use Rattle.used.specs.Pens.{last_of, op_room, pen_at};

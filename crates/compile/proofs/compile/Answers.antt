@@ -40,7 +40,8 @@ put_function-f-requires c =
     let l = c.make_lists-l.ensures in
     let m = c.make_lists-l.new.globals in
     let g = lists c.make_lists-l.new.globals c.make_lists-l.new.builtins c.make_lists-l.new.switches c.make_lists-l.new.targets c.make_lists-l.new.lookups c.make_lists-l.new.values in
-    put_ready registers registers_most a.ws.now a.used b (c.type_inv.ws 13).fits e p k {lists' = g} l
+    let r = put_ready registers registers_most a.ws.now a.used b (c.type_inv.ws 13).fits e p k {lists' = g} l in
+    record { lowerable = r.0; places_ready = r.1.0; program_ready = r.1.1 }
 
 pub finish_targets-requires : goal.finish_targets-requires
 finish_targets-requires c =

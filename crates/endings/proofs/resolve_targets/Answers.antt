@@ -1,5 +1,4 @@
 -- Turn by turn a slot that is a label becomes its pc.
-use Prim.Native.Nat.{◌-◌}
 use Rattle.endings.proofs.Relabels.{relabels_start, relabels_turn, relabels_end}
 use native.Mathlib.Omega.{arith}
 use lib.ListN.{get_or}

@@ -8,7 +8,6 @@ use lib.Dec.{leb, eqb}
 use lib.ListN.{length}
 use Rattle.base.specs.Buffers.{zero_from}
 use Rattle.endings.proofs.Wipes.{records-in, within_too, wipes, stays, wiped-past}
-use borrow.Author.Rules.{rules}
 use Rattle.endings.proofs.wipe64.Goals as goal
 
 -- OLD div-if1 : tie.Need-nonzero-div-if1

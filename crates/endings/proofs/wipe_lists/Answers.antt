@@ -8,4 +8,4 @@ returns c = let a = c.args in (
   c.wipe32.ensures,
   c.wipe64-2.ensures,
   c.wipe32-2.ensures,
-    )
+)

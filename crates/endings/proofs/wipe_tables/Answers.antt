@@ -7,4 +7,4 @@ returns c = (
   c.wipe32.ensures,
   c.wipe64-2.ensures,
   c.wipe64-3.ensures,
-    )
+)

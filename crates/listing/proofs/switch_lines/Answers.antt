@@ -1,6 +1,4 @@
 -- What is left grows less at each turn. Assumes nothing.
-use Rattle.std.proofs.Common.{◌-◌, rules}
-use Rattle.listing.proofs.switch_lines.Goals as goal
 
 -- OLD slice-aggregate-title : tie.Need-slice-aggregate-title invariant-loop decreases-loop
 -- slice-aggregate-title c = search rules

@@ -20,7 +20,10 @@ some_lookups-requires c =
 pub returns : goal.returns
 returns c =
     let a = c.args in
-    let h = eq-eqb _ 0 (sym c.block_field.ensures ∙ c.if-block_field-ne0.false) in record { start_value = (
+    let h = eq-eqb _ 0 (sym c.block_field.ensures ∙ c.if-block_field-ne0.false) in record {
+      start_value = (
         live-next a.ws.now a.b a.t.start h _ (rw (c.block_field-first.ensures, c.block_field-n.ensures) at c.some_lookups.ensures.start_value.0),
         omega (arith, c.some_lookups.ensures.start_value.1),
-      ); grows = live-some a.ws.now a.b a.t.start h a.heads (rw (c.block_field-first.ensures, c.block_field-n.ensures) at c.some_lookups.ensures.grows) }
+      );
+      grows = live-some a.ws.now a.b a.t.start h a.heads (rw (c.block_field-first.ensures, c.block_field-n.ensures) at c.some_lookups.ensures.grows);
+    }

@@ -1,6 +1,5 @@
 -- The blocks from b on are left.
 use mathlib.Core.Path.{refl, ◌∙◌}
-use Prim.Native.Nat.{◌-◌}
 use native.Mathlib.Omega.{arith}
 use Rattle.lookups.proofs.Lookups.{blocks_start, blocks-turn, blocks_end}
 use Rattle.lookups.proofs.lookup_pass.Goals as goal

@@ -1,7 +1,6 @@
 -- So many are left.
 use mathlib.Core.Path.{refl, ◌∙◌}
 use Rattle.grow.proofs.Growing.{left_as}
-use Rattle.tables.specs.Tables.{filled}
 use Rattle.lookups.proofs.Lookups.{filled-turn, filled-end}
 use Rattle.lookups.proofs.put_filled.Goals as goal
 

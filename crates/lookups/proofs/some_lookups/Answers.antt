@@ -1,6 +1,6 @@
 -- The instructions from the j-th on are left; each table has at most 4,096 slots.
 use mathlib.Core.Path.{refl, ◌∙◌}
-use Prim.Native.Nat.{◌+◌, ◌-◌}
+use Prim.Native.Nat.{◌+◌}
 use native.Mathlib.Omega.{arith}
 use Rattle.lookups.proofs.Lookups.{instrs_start, slots_start, instrs_turn, instrs_end, slots_turn, slots_end}
 use Rattle.lookups.proofs.some_lookups.Goals as goal
@@ -17,7 +17,7 @@ pub one_lookup-u-requires : goal.one_lookup-u-requires
 one_lookup-u-requires c = (
   omega (arith, c.requires.n_bound.1, c.loop-j-test.true, c.loop-j.invariant.2.0),
   c.requires.by_index (c.args.first + c.loop-j.j) (omega arith) (omega (arith, c.loop-j-test.true)),
-    )
+)
 
 pub overflow_add-j : goal.overflow_add-j
 overflow_add-j c = omega (arith, c.loop-j-test.true)

@@ -1,6 +1,5 @@
 -- The entries from the j-th on are left, each with a slot of the table.
 use mathlib.Core.Path.{refl, ◌∙◌}
-use Prim.Native.Nat.{◌-◌}
 use native.Mathlib.Omega.{arith}
 use Rattle.fit.specs.Keys.{keys_at}
 use Rattle.tables.proofs.Ranges.{key_low, key_slot}

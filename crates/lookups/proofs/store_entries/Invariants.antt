@@ -7,7 +7,7 @@ use Rattle.lookups.proofs.Lookups.{EntriesLeft}
 use Rattle.lookups.proofs.store_entries.Given as goal
 
 abbrev pub invariant-loop-j : goal.invariant-loop-j
-invariant-loop-j l = 
+invariant-loop-j l =
     (length l.values ≡ length l.initial.values) × EntriesLeft l.ws (keys_at 2 l.c l.n) l.start l.c l.n l.initial.values l.e l.j l.values l.e
 
 abbrev pub decreases-loop-j : goal.decreases-loop-j

@@ -1,7 +1,4 @@
 -- The opcodes that are left grow fewer. Assumes nothing.
-use Prim.Native.Nat.{◌-◌}
-use borrow.Author.Rules.{rules}
-use Rattle.optable.proofs.rows.Goals as goal
 
 -- OLD part-write-start : tie.Need-slice-bounds-write-start invariant-loop decreases-loop
 -- part-write-start c = search rules

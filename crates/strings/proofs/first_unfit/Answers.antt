@@ -1,6 +1,5 @@
 -- The first unfit function is among those from k on.
 use mathlib.Core.Path.{refl, sym, ◌∙◌}
-use Prim.Native.Nat.{◌-◌}
 use native.Mathlib.Omega.{arith}
 use Rattle.place.specs.Registers.{registers}
 use Rattle.strings.proofs.Parts.{fields, first_none, first_found, first_on}

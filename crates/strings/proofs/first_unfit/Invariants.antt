@@ -7,7 +7,7 @@ use Rattle.strings.specs.Strings.{functions_in, first_unfit}
 use Rattle.strings.proofs.first_unfit.Given as goal
 
 abbrev pub invariant-loop-k : goal.invariant-loop-k
-invariant-loop-k l = 
+invariant-loop-k l =
     first_unfit registers l.k (functions_in l.words l.from (drop l.k l.ends)) ≡ first_unfit registers 0 (functions_in l.words 0 l.ends)
 
 abbrev pub decreases-loop-k : goal.decreases-loop-k

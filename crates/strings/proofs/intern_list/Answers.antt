@@ -1,6 +1,5 @@
 -- The functions from k on are left, and none of them is unfit.
 use mathlib.Core.Path.{refl, ◌∙◌}
-use Prim.Native.Nat.{◌-◌}
 use native.Mathlib.Omega.{arith}
 use Rattle.place.specs.Registers.{registers}
 use Rattle.grow.proofs.Growing.{left_as, left-turn, left_end}

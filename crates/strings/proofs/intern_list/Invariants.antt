@@ -8,7 +8,7 @@ use Rattle.strings.specs.Strings.{functions_in, first_unfit, all_strings}
 use Rattle.strings.proofs.intern_list.Given as goal
 
 abbrev pub invariant-loop-k : goal.invariant-loop-k
-invariant-loop-k l = 
+invariant-loop-k l =
     (length l.globals ≡ length l.initial.globals)
     × ((first_unfit registers l.k (functions_in l.words l.from (drop l.k l.ends))).number ≡ 0)
     × Left (all_strings (functions_in l.words l.from (drop l.k l.ends))) (all_strings (functions_in l.words 0 l.ends)) l.initial.globals l.initial.f l.globals l.f

@@ -1,5 +1,5 @@
 -- The heads from block b on are left; each table has at most 4,096 slots.
-use Rattle.std.proofs.Common.{◌-◌, refl, ◌∙◌, arith}
+use Rattle.std.proofs.Common.{refl, ◌∙◌, arith}
 use Rattle.tables.specs.Tables.{switch_heads_after}
 use Rattle.tables.proofs.Switches.{switch_slots_few, heads_start, heads_turn, heads_end}
 use Rattle.tables.proofs.put_switch_heads.Goals as goal

@@ -4,7 +4,7 @@ use Rattle.tables.proofs.Switches.{HeadsLeft}
 use Rattle.tables.proofs.put_switch_heads.Given as goal
 
 abbrev pub invariant-loop-b : goal.invariant-loop-b
-invariant-loop-b l = 
+invariant-loop-b l =
     (length l.heads ≡ length l.initial.heads) × (l.t.start ≤ l.used + 4096 * l.b) × HeadsLeft l.ws l.used l.end l.initial.heads l.initial.t.end l.t.start l.b l.heads l.t.end
 
 abbrev pub decreases-loop-b : goal.decreases-loop-b

@@ -1,5 +1,5 @@
 -- The slots from block b on are left; each table has at most 4,096 slots and 1,024 pads.
-use Rattle.std.proofs.Common.{◌-◌, refl, ◌∙◌, arith}
+use Rattle.std.proofs.Common.{refl, ◌∙◌, arith}
 use Rattle.tables.specs.Tables.{switch_targets_after}
 use Rattle.tables.proofs.Switches.{switch_slots_few, switch-pads_few, targets_start, targets_turn, targets_end}
 use Rattle.tables.proofs.put_switch_targets.Goals as goal
@@ -11,11 +11,14 @@ pub loop-b-init : goal.loop-b-init
 loop-b-init c = (refl, omega arith, omega arith, targets_start c.args.ws.now c.args.map.now c.args.used c.head_field-end.result _ _)
 
 pub switch_slots-t-requires : goal.switch_slots-t-requires
-switch_slots-t-requires c = record { b_bound = (
+switch_slots-t-requires c = record {
+  b_bound = (
     rw c.head_field-end.ensures at c.loop-b-test.true,
     omega (arith, c.loop-b.invariant.1, c.loop-b-test.true, c.head_field-end.ensures, c.requires.used_bound, c.requires.ready.few_blocks),
     omega (arith, c.loop-b.invariant.2, c.loop-b-test.true, c.head_field-end.ensures, c.requires.ready.few_blocks),
-  ); ready = c.requires.ready }
+  );
+  ready = c.requires.ready;
+}
 
 pub overflow_add-b : goal.overflow_add-b
 overflow_add-b c = omega (arith, c.loop-b-test.true)

@@ -4,7 +4,7 @@ use Rattle.tables.proofs.Switches.{TargetsLeft}
 use Rattle.tables.proofs.put_switch_targets.Given as goal
 
 abbrev pub invariant-loop-b : goal.invariant-loop-b
-invariant-loop-b l = 
+invariant-loop-b l =
     (length l.targets ≡ length l.initial.targets) × (l.t.start ≤ l.used + 4096 * l.b) × (l.t.label ≤ 2 * l.end + 1024 * l.b)
     × TargetsLeft l.ws l.map l.used l.end l.initial.targets l.initial.t.end l.t.start l.t.label l.b l.targets l.t.end
 

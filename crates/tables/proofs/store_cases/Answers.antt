@@ -1,5 +1,5 @@
 -- The cases from the j-th on are left, each with a slot of the table.
-use Rattle.std.proofs.Common.{◌-◌, refl, ◌∙◌, arith}
+use Rattle.std.proofs.Common.{refl, ◌∙◌, arith}
 use Rattle.fit.specs.Keys.{keys_at}
 use Rattle.tables.proofs.Ranges.{case_low, case_slot}
 use Rattle.tables.proofs.Switches.{cases-start, cases-turn, cases_end, pads-start, pads-turn, pads-end}

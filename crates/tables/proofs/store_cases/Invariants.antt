@@ -5,7 +5,7 @@ use Rattle.tables.proofs.Switches.{CasesLeft, PadsLeft}
 use Rattle.tables.proofs.store_cases.Given as goal
 
 abbrev pub invariant-loop-j : goal.invariant-loop-j
-invariant-loop-j l = 
+invariant-loop-j l =
     (length l.targets ≡ length l.initial.targets) × PadsLeft l.ws l.map l.label l.edge l.n l.next l.j
     × CasesLeft l.ws l.map (keys_at 1 l.c l.n) l.start l.label l.c l.edge l.n l.initial.targets l.e l.next l.j l.targets l.e
 
