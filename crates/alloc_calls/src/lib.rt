@@ -1,5 +1,6 @@
 // Placements one after the other, for another language to call and to time.
 #![tactic(auto)]
+
 ghost use Rattle.std.specs.Prelude.{◌≡◌, ◌<◌, ◌/◌, length};
 ghost use Rattle.alloc.specs.Good.{Good};
 ghost use Rattle.alloc_calls.specs.Placements.{placed, place, all_placed};

@@ -1,5 +1,6 @@
 // Used lengths and answers as words of a buffer, for other languages.
 #![tactic(auto)]
+
 ghost use Rattle.std.specs.Prelude.{◌≡◌, [], ◌∷◌};
 ghost use Rattle.std.proofs.lemmas.List.Edits.{sets};
 ghost use Rattle.answers.specs.Answers.{used_in, used_words, used_after};

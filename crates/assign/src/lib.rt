@@ -1,5 +1,6 @@
 // Places a row at a time: what a block's parameters and an instruction do.
 #![tactic(auto)]
+
 ghost use Rattle.std.specs.Prelude.{◌≡◌, true, List, [], ℕ, ◌≤◌, eqb};
 ghost use Rattle.base.specs.Choice.{pick};
 ghost use Rattle.alloc.specs.Good.{Good};

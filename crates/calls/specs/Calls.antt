@@ -1,5 +1,5 @@
 -- Calls and tails, on a machine with n registers.
-use Rattle.std.specs.Prelude.{ℕ, zero, suc, ◌+◌, ◌-◌, ◌%◌, ◌^◌, max, List, [], ◌∷◌, map, reverse, Bool, leb, eqb, length}
+use Rattle.std.specs.Prelude.{ℕ, zero, suc, ◌+◌, ◌-◌, ◌%◌, ◌^◌, max, List, [], ◌∷◌, map, reverse, leb, eqb, length}
 use Rattle.base.specs.Choice.{pick}
 use Rattle.base.specs.Masks.{has_bit}
 use Rattle.base.specs.Emission.{Out, emit, emit_all}

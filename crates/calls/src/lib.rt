@@ -1,5 +1,6 @@
 // Calls and tails.
 #![tactic(auto)]
+
 ghost use Rattle.std.specs.Prelude.{◌≡◌, List, reverse, ℕ, ◌+◌, ◌-◌, ◌%◌, ◌^◌, ◌≤◌, ◌<◌, max, leb, eqb, length, take, drop};
 ghost use mathlib.Core.List as list;
 ghost use Rattle.base.specs.Emission.{emit, emit_all};

@@ -4,6 +4,7 @@
 // the function table, these, low half first. A program is compacted in buffers that it fills exactly, and once more where that left it.
 // Then programs that are refused, one line each with document 01's number.
 #![tactic(auto)]
+
 ghost use Rattle.std.specs.Prelude.{◌≡◌, ◌+◌, ◌*◌, ◌≤◌, ◌<◌, length};
 ghost use Rattle.compact.specs.Entry.{number_for, used_for};
 

@@ -1,5 +1,6 @@
 // Edges and branches: the moves of an edge, its Jmp, and the labels of those that don't fall through.
 #![tactic(auto)]
+
 ghost use Rattle.std.specs.Prelude.{◌≡◌, List, [], ◌∷◌, ◌++◌, ℕ, ◌+◌, ◌≤◌, ◌<◌, min, ltb, eqb, length, take};
 ghost use Rattle.base.specs.Choice.{pick};
 ghost use Rattle.base.specs.Lent.{Lowers};

@@ -1,5 +1,6 @@
 // Refusals 4 to 7, row by row.
 #![tactic(auto)]
+
 ghost use Rattle.std.specs.Prelude.{◌≡◌, ℕ, ◌+◌, ◌-◌, ◌^◌, ◌<◌, min, max, true, List, nat_lt};
 ghost use Rattle.base.specs.Choice.{pick};
 ghost use Rattle.base.specs.Limits.{most_table_slots};

@@ -1,5 +1,6 @@
 // Lists that grow in lent buffers.
 #![tactic(auto)]
+
 ghost use Rattle.std.specs.Prelude.{◌≡◌, [], ◌∷◌, ◌++◌, set};
 ghost use Rattle.grow.specs.Growing.{Grows};
 

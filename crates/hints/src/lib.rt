@@ -1,5 +1,6 @@
 // Hints along the edges of a terminator.
 #![tactic(auto)]
+
 ghost use Rattle.std.specs.Prelude.{◌≡◌, true, List, ℕ, ◌+◌, ◌<◌};
 ghost use Rattle.alloc.specs.declared.Alloc.{Alloc};
 ghost use Rattle.input.specs.Layout.{blocks, list_at};

@@ -1,5 +1,6 @@
 // The words of one function: fields of records, and refusal 1.
 #![tactic(auto)]
+
 ghost use Rattle.std.specs.Prelude.{◌≡◌, ◌+◌, ◌*◌, ◌<◌, true, eqb, leb, length};
 ghost use Rattle.base.specs.Choice.{pick};
 ghost use Rattle.input.specs.Layout.{head_field, value_field, block_field, instr_field, edge_field, constant_field, pool_at, head_words, value_words, values, blocks_from, pool_from, pooled};

@@ -1,7 +1,7 @@
 -- Finding a constant among the globals and a builtin in its list, and what is done where it is found and where it isn't.
 use mathlib.Core.Path.{◌≡◌, refl, sym, ap, ◌∙◌}
 use mathlib.Core.Logic.{⊎_elim}
-use mathlib.Core.Bool.{Bool, true, false}
+use mathlib.Core.Bool.{true, false}
 use Prim.Native.Nat.{ℕ, zero, suc, ◌+◌, ◌*◌, ◌/◌, ◌≤◌, ◌<◌, min}
 use mathlib.Core.List.{List, [], ◌∷◌, ◌++◌, append_assoc}
 use native.Mathlib.Omega.{arith}

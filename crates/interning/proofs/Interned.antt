@@ -1,5 +1,5 @@
 -- The passes that intern constants and builtins: each thing in turn, and which constants of the words a row has.
-use mathlib.Core.Path.{◌≡◌, refl, sym, ap, ◌∙◌}
+use mathlib.Core.Path.{◌≡◌, refl, ap}
 use mathlib.Core.Bool.{Bool, true, false}
 use Prim.Native.Nat.{ℕ, suc, ◌+◌, ◌*◌, ◌-◌, ◌≤◌, ◌<◌}
 use mathlib.Core.List.{List, [], ◌∷◌, ◌++◌}
@@ -8,7 +8,7 @@ use borrow.Author.Tests.{eq-eqb, ne_eqb}
 use Rattle.base.specs.Choice.{pick}
 use Rattle.grow.specs.declared.End.{End}
 use Rattle.grow.specs.Growing.{Grows}
-use Rattle.grow.proofs.Growing.{Left, left_as, left-turn, left_end, none, renamed}
+use Rattle.grow.proofs.Growing.{Left, left-turn, left_end, none, renamed}
 use Rattle.input.specs.Records.{instr_kind, instr_x, instr_y, load_const, lookup, sys, term_kind, term_x, term_y, switch, constant_kind, payload_of}
 use Rattle.rows.specs.Rows.{Row, params, instr, term}
 use Rattle.fit.specs.Keys.{keys_at}

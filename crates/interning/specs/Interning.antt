@@ -1,6 +1,6 @@
 -- Interning: the globals, held as kind and payload, and the builtins. A constant or builtin that is there already keeps its number, else it
 -- gets the next.
-use Rattle.std.specs.Prelude.{ℕ, zero, suc, ◌+◌, ◌*◌, Bool, List, [], ◌∷◌, ◌++◌, ltb, eqb, length}
+use Rattle.std.specs.Prelude.{ℕ, suc, ◌+◌, ◌*◌, Bool, List, [], ◌∷◌, ◌++◌, ltb, eqb, length}
 use Rattle.base.specs.Choice.{pick}
 use Rattle.input.specs.Records.{instr_kind, instr_x, instr_y, load_const, lookup, sys, term_kind, term_x, term_y, switch, constant_kind, payload_of, str_const}
 use Rattle.input.specs.Forms.{both}

@@ -1,5 +1,6 @@
 // Interning of constants and builtins.
 #![tactic(auto)]
+
 ghost use Rattle.std.specs.Prelude.{◌≡◌, true, ℕ, ◌+◌, ◌*◌, ◌^◌, ◌<◌, ◌≤◌, min, eqb, length, take};
 ghost use Rattle.base.specs.Choice.{pick};
 ghost use Rattle.grow.specs.Growing.{Grows};

@@ -1,5 +1,6 @@
 // Judging a function without compiling it: refusals 1 to 7.
 #![tactic(auto)]
+
 ghost use Rattle.std.specs.Prelude.{◌≡◌, ◌⊎◌, true, List, ℕ, ◌+◌, ◌≤◌, ◌<◌, length, get_or};
 ghost use Rattle.base.specs.Limits.{most_rows};
 ghost use Rattle.place.specs.Registers.{registers};

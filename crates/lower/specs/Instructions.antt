@@ -1,13 +1,12 @@
 -- The instructions that are one op: Bin, BinImm, LoadConst, Cast, Alloc, Store, Load, AddrOf, Lookup, Assert. Operands are loaded in the
 -- Rust's order. Each is given the places of its destination and operands.
-use Rattle.std.specs.Prelude.{ℕ, zero, suc, ◌-◌, ◌%◌, ◌/◌, ◌^◌, Bool, true, false, List, [], ◌∷◌, ltb, eqb, length}
+use Rattle.std.specs.Prelude.{ℕ, ◌-◌, ◌%◌, ◌^◌, Bool, true, false, ltb, eqb}
 use Rattle.base.specs.Choice.{pick}
 use Rattle.base.specs.Emission.{Out, emit}
 use Rattle.op.specs.declared.Op.{Op}
 use Rattle.op.specs.Words.{word}
 use Rattle.op.specs.Ops as op
-use Rattle.input.specs.Records.{undefined_const, false_const, true_const, int_const}
-use Rattle.input.specs.Forms.{both}
+use Rattle.input.specs.Records.{false_const, true_const, int_const}
 use Rattle.lower.specs.Operands.{operand, into}
 
 unfoldable pub lower_bin : ℕ → ℕ → ℕ → ℕ → ℕ → Out → Out

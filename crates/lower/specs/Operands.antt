@@ -1,10 +1,9 @@
 -- Operands and destinations, on a machine with n registers. A place is a number: register r is r, slot k is 256 + k.
-use Rattle.std.specs.Prelude.{ℕ, ◌-◌, Bool, true, false, List, ltb, eqb, get_or}
+use Rattle.std.specs.Prelude.{ℕ, ◌-◌, Bool, false, List, ltb, eqb, get_or}
 use Rattle.base.specs.Choice.{pick}
 use Rattle.base.specs.Emission.{Out, emit}
 use Rattle.place.specs.Registers.{scratch_of, tmp_of}
 use Rattle.place.specs.Places.{slots_from}
-use Rattle.op.specs.declared.Op.{Op}
 use Rattle.op.specs.Words.{word, parts}
 use Rattle.op.specs.Ops.{load_slot, store_slot}
 

@@ -1,5 +1,6 @@
 // Operands, destinations, and the instructions that are one op.
 #![tactic(auto)]
+
 ghost use Rattle.std.specs.Prelude.{◌≡◌, List, ℕ, ◌%◌, ◌^◌, eqb};
 ghost use Rattle.base.specs.Choice.{pick};
 ghost use Rattle.base.specs.Emission.{emit};

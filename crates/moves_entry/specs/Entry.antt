@@ -1,5 +1,5 @@
 -- The outer entry: what it answers, and what the lent buffers hold afterwards.
-use Rattle.std.specs.Prelude.{ℕ, ◌+◌, min, List, [], ◌∷◌, Bool, true, false, length, replicate, leb}
+use Rattle.std.specs.Prelude.{ℕ, ◌+◌, min, List, [], ◌∷◌, Bool, false, length, replicate, leb}
 use Rattle.std.proofs.lemmas.List.Edits.{sets}
 use Rattle.base.specs.Choice.{pick}
 use Rattle.base.specs.Limits.{most_moves, most_of_a_kind}

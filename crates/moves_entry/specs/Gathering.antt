@@ -2,7 +2,7 @@
 use Rattle.std.specs.Prelude.{◌≡◌, ℕ, ◌≤◌, List, length, take, set, replicate}
 use Rattle.std.proofs.lemmas.List.Edits.{sets}
 use Rattle.base.specs.Choice.{pick}
-use Rattle.base.specs.Limits.{most_moves, most_of_a_kind}
+use Rattle.base.specs.Limits.{most_moves}
 use Rattle.place.specs.Places.{number_of}
 use Rattle.moves.specs.Moves.{move_words}
 use Rattle.moves.specs.AtOnce.{moves_ok}

@@ -1,5 +1,6 @@
 // The outer entry of parallel moves, over a slice of pairs: a thin layer over the number columns.
 #![tactic(auto)]
+
 ghost use Rattle.std.specs.Prelude.{◌≡◌, Bool, ◌<◌, ◌≤◌, min, length, take, drop, leb};
 ghost use Rattle.base.specs.Choice.{pick};
 ghost use Rattle.base.specs.Limits.{most_moves, most_of_a_kind};

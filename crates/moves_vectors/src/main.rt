@@ -1,6 +1,7 @@
 // Replays lists of moves whose ops came from the Rust: the file stdin, made by tools/vectors with the commit's own `emit_parallel_move`. What stands
 // in its rows is said at the top of oracle/vectors/src/moves.rs.
 #![tactic(auto)]
+
 ghost use Rattle.std.specs.Prelude.{◌≡◌, ◌≤◌};
 ghost use Rattle.moves_entry.specs.Entry.{answer_number, used_for};
 

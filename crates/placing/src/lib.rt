@@ -1,5 +1,6 @@
 // Judging a function and giving its places, without compiling it.
 #![tactic(auto)]
+
 ghost use Rattle.std.specs.Prelude.{◌≡◌, true, List, ℕ, eqb, take};
 ghost use Rattle.std.proofs.lemmas.List.Edits.{sets};
 ghost use Rattle.base.specs.Buffers.{zero_from};

@@ -1,5 +1,6 @@
 // A view over the words of a function: a slice and a position in it. Functions over the struct are thin, and call one on the slice and the position.
 #![tactic(auto)]
+
 ghost use Rattle.std.specs.Prelude.{◌≡◌, ltb, length};
 ghost use Rattle.base.specs.Choice.{pick};
 ghost use Rattle.reader.specs.Reader.{step_at, step_number};

@@ -1,12 +1,12 @@
 -- Loops over numbers of the pool and over blocks: what is left decides, and the sum of a loop over blocks.
-use mathlib.Core.Path.{◌≡◌, refl, sym, ◌∙◌, ap}
+use mathlib.Core.Path.{◌≡◌, refl, sym, ◌∙◌}
 use mathlib.Core.Bool.{Bool, true, false, not}
-use mathlib.Core.List.{List, [], ◌∷◌}
+use mathlib.Core.List.{List}
 use Prim.Native.Nat.{ℕ, zero, suc, ◌+◌, ◌-◌, ◌*◌, ◌≤◌, ◌<◌}
 use native.Mathlib.Nat.{not-suc-le-zero}
 use native.Mathlib.Omega.{arith}
 use Rattle.base.specs.Choice.{pick}
-use Rattle.input.specs.Layout.{values, pool_at, list_at}
+use Rattle.input.specs.Layout.{pool_at, list_at}
 use Rattle.input.specs.Records.{is_live, instr_count}
 use Rattle.input.specs.Forms.{each}
 use Rattle.input.proofs.Each.{Left}

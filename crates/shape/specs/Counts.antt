@@ -1,5 +1,5 @@
 -- Refusal 2, TooMany: an input count above the table of document 01's "Numbers", or zero cases or entries. Judged of all blocks, tombstones too.
-use Rattle.std.specs.Prelude.{ℕ, zero, suc, ◌+◌, Bool, true, false, List, leb, eqb}
+use Rattle.std.specs.Prelude.{ℕ, zero, suc, ◌+◌, Bool, true, List, leb, eqb}
 use Rattle.base.specs.Choice.{pick}
 use Rattle.base.specs.Limits.{most_values, most_blocks, most_rows, most_arguments, most_parameters, most_cases}
 use Rattle.input.specs.Layout.{values, blocks, instructions}

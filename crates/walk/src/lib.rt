@@ -1,5 +1,6 @@
 // Places for a whole function: the rows of all blocks in order.
 #![tactic(auto)]
+
 ghost use Rattle.std.specs.Prelude.{◌≡◌, ◌+◌, ◌-◌, ◌<◌, ◌≤◌, length, get_or};
 ghost use Rattle.std.proofs.lemmas.List.Edits.{sets};
 ghost use Rattle.place.specs.Registers.{registers};

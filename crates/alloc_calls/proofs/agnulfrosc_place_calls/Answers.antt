@@ -15,7 +15,7 @@ loop-k-init c = let a = c.args in (
   refl,
   c.new-s.ensures.good,
   places_all a.calls.now a.pool.now _ a.map.now c.new-s.ensures.value,
-    )
+)
 
 pub place_one-s-requires : goal.place_one-s-requires
 place_one-s-requires c = record { k_in_bounds = c.loop-k-test.true; good = c.loop-k.invariant.1 }

@@ -1,5 +1,5 @@
 -- What is left of the calls from k on: each turn places one.
-use mathlib.Core.Path.{◌≡◌, ap}
+use mathlib.Core.Path.{◌≡◌}
 use Prim.Native.Nat.{◌-◌}
 use lib.ListN.{length}
 use Rattle.alloc.specs.Good.{Good}

@@ -12,11 +12,17 @@ pin_list-requires c = let ws = c.args.ws.now in
     record { n_bound = omega (arith, e, c.requires.fits.parameters); good = c.requires.good }
 
 pub returns-then-b-eq0 : goal.returns-then-b-eq0
-returns-then-b-eq0 c = let a = c.args in record { good_2 = c.pin_list.ensures.good_2; by_index = λ m.
+returns-then-b-eq0 c = let a = c.args in record {
+  good_2 = c.pin_list.ensures.good_2;
+  by_index = λ m.
       rw (c.block_field-at.ensures, c.block_field-n.ensures) at (c.pin_list.ensures.by_index m)
-      ∙ sym (params_zero a.ws.now a.pool.now a.row (walk a.s a.map.now a.wish.now m) a.b c.if-b-eq0.true) }
+      ∙ sym (params_zero a.ws.now a.pool.now a.row (walk a.s a.map.now a.wish.now m) a.b c.if-b-eq0.true);
+}
 
 pub returns : goal.returns
-returns c = let a = c.args in record { good_2 = c.place_list.ensures.good; by_index = λ m.
+returns c = let a = c.args in record {
+  good_2 = c.place_list.ensures.good;
+  by_index = λ m.
       rw (c.block_field-at.ensures, c.block_field-n.ensures) at (c.place_list.ensures.by_index m)
-      ∙ sym (params_other a.ws.now a.pool.now a.row (walk a.s a.map.now a.wish.now m) a.b c.if-b-eq0.false) }
+      ∙ sym (params_other a.ws.now a.pool.now a.row (walk a.s a.map.now a.wish.now m) a.b c.if-b-eq0.false);
+}

@@ -13,7 +13,7 @@ loop-j-init c = let a = c.args in (
   refl,
   c.requires,
   λ m. left_all (λ (i k : ℕ). run a.ws.now a.pool.now (places a.row (list_at a.ws.now i k)) (walk a.s a.map.now a.wish.now m)) a.at a.n,
-    )
+)
 
 pub pool_at-v-requires : goal.pool_at-v-requires
 pool_at-v-requires c = tt

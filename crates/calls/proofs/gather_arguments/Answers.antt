@@ -1,6 +1,5 @@
 -- What stands in the columns and the moves of the arguments from j on make up the whole.
 use mathlib.Core.Path.{refl}
-use Prim.Native.Nat.{◌-◌}
 use native.Mathlib.Omega.{arith}
 use Rattle.fit.proofs.Counts.{counted_start, counted-turn, counted-end}
 use Rattle.edges.proofs.Columns.{toward_start, toward_turn, toward_end}

@@ -8,7 +8,7 @@ use Rattle.calls.proofs.Shuffling.{shuffled_from, shuffled_to}
 use Rattle.calls.proofs.gather_arguments.Given as goal
 
 abbrev pub invariant-loop-j : goal.invariant-loop-j
-invariant-loop-j l = 
+invariant-loop-j l =
     (l.m ≤ l.j) × (l.j ≤ l.count) × (length l.src ≡ length l.initial.src) × (length l.dst ≡ length l.initial.dst)
     × Toward (shuffled_from l.ws l.map l.pushes l.j (list_at l.ws (l.at + l.j) (l.count - l.j))) (shuffled_from l.ws l.map l.pushes 0 (list_at l.ws l.at l.count)) l.src l.m
     × Toward (shuffled_to l.ws l.map l.pushes l.j (list_at l.ws (l.at + l.j) (l.count - l.j))) (shuffled_to l.ws l.map l.pushes 0 (list_at l.ws l.at l.count)) l.dst l.m

@@ -1,8 +1,7 @@
 -- What stands in the column and the registers of the mask from r on make up the whole.
 use mathlib.Core.Path.{refl, sym, ◌∙◌}
-use Prim.Native.Nat.{◌-◌}
 use native.Mathlib.Omega.{arith}
-use lib.ListN.{length, length-set}
+use lib.ListN.{length-set}
 use Rattle.fit.proofs.Counts.{counted_start, counted-turn, counted-end}
 use Rattle.edges.proofs.Columns.{toward_start, toward_turn, toward_end}
 use Rattle.calls.proofs.Masked.{masked_counted, masked_in, masked_out}
@@ -32,14 +31,14 @@ loop-r-preserved c =
     let m = c.has.ensures in
     let t = counted-turn (masked_counted a.mask) a.limit l.r c.loop-r-test.true in
     elim c.if-has.branch [
-      then-has w ↦
+      | then-has w ↦
           rw (w.regs-is, w.k-is) (
             omega (arith, v.0),
             omega arith,
             simp length-set v.2,
             toward_turn _ _ _ _ v.3 t (masked_in a.mask l.r l.regs l.k (sym m ∙ w.if-has.true) (omega (arith, v.0, v.2, c.requires))),
           )
-    | else-has w ↦
+      | else-has w ↦
           rw (w.regs-is, w.k-is) (
             omega (arith, v.0),
             omega arith,

@@ -3,7 +3,7 @@ use Prim.Native.Nat.{◌≤◌, ◌<◌, ◌-◌}
 use Rattle.compact_vectors.proofs.replay_all.Given as goal
 
 abbrev pub invariant-loop-done : goal.invariant-loop-done
-invariant-loop-done l = 
+invariant-loop-done l =
     (l.done ≤ l.programs) × ((l.differ ≤ l.done) × (l.total < 1000000000))
 
 abbrev pub decreases-loop-done : goal.decreases-loop-done

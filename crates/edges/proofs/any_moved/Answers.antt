@@ -1,6 +1,5 @@
 -- The pairs that are left answer for all of them.
 use mathlib.Core.Path.{sym, ◌∙◌}
-use Prim.Native.Nat.{◌-◌}
 use Rattle.edges.proofs.Moved.{some-start, some-here, some-later, some_none}
 use Rattle.edges.proofs.any_moved.Goals as goal
 

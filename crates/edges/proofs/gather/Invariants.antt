@@ -8,7 +8,7 @@ use Rattle.edges.proofs.Moved.{moved_from, moved_to}
 use Rattle.edges.proofs.gather.Given as goal
 
 abbrev pub invariant-loop-j : goal.invariant-loop-j
-invariant-loop-j l = 
+invariant-loop-j l =
     (l.m ≤ l.j) × (l.j ≤ l.n) × (length l.src ≡ length l.initial.src) × (length l.dst ≡ length l.initial.dst)
     × Toward (moved_from l.ws l.map (list_at l.ws (l.at + l.j) (l.n - l.j)) (list_at l.ws (l.to + l.j) (l.n - l.j))) (moved_from l.ws l.map (list_at l.ws l.at l.n) (list_at l.ws l.to l.n)) l.src l.m
     × Toward (moved_to l.ws l.map (list_at l.ws (l.at + l.j) (l.n - l.j)) (list_at l.ws (l.to + l.j) (l.n - l.j))) (moved_to l.ws l.map (list_at l.ws l.at l.n) (list_at l.ws l.to l.n)) l.dst l.m

@@ -1,7 +1,5 @@
 -- What is counted and what is left to count make up the whole.
 use mathlib.Core.Path.{sym, ◌∙◌}
-use mathlib.Core.Logic.{⊎_elim}
-use Prim.Native.Nat.{◌-◌}
 use native.Mathlib.Omega.{arith}
 use Rattle.edges.proofs.Padding.{count-start, count_pad, count_skip, count-end}
 use Rattle.edges.proofs.pad_count.Goals as goal
@@ -29,10 +27,10 @@ loop-i-preserved c =
     let h = c.loop-i-test.true in
     let m = c.has_moves.ensures in
     elim c.if-has_moves.branch [
-      then-has_moves w ↦
+      | then-has_moves w ↦
           let t = count_pad a.ws.now a.map.now a.e a.k l.i h (sym m ∙ w.if-has_moves.true) in
           (omega (arith, w.count-is), omega (arith, w.count-is), omega (arith, l.invariant.2, w.count-is))
-    | else-has_moves w ↦
+      | else-has_moves w ↦
           let t = count_skip a.ws.now a.map.now a.e a.k l.i h (sym m ∙ w.if-has_moves.false) in
           (omega (arith, w.count-is), omega (arith, w.count-is), omega (arith, l.invariant.2, w.count-is))
     ]

@@ -1,11 +1,8 @@
 -- What is emitted and the pads that are left make up the whole: a label and an edge for a case with moves, nothing for one without.
 use mathlib.Core.Path.{refl, sym, ◌∙◌}
-use mathlib.Core.Logic.{⊎_elim}
-use Prim.Native.Nat.{◌-◌}
 use native.Mathlib.Omega.{arith}
 use Rattle.base.proofs.Pens.{left_as, left-turn, left_end, lowers_none, then}
 use Rattle.place.specs.Registers.{registers}
-use Rattle.edges.specs.Edges.{pads}
 use Rattle.edges.proofs.Padding.{pads-start, pads_pad, pads_skip, pads-end}
 use Rattle.edges.proofs.put_pads.Goals as goal
 use Rattle.edges.proofs.put_pads.Goals.{then-has_moves, else-has_moves}
@@ -45,7 +42,7 @@ loop-i-preserved c =
     let h = c.loop-i-test.true in
     let m = c.has_moves.ensures in
     elim c.if-has_moves.branch [
-      then-has_moves w ↦
+      | then-has_moves w ↦
           rw (w.ops-is, w.spans-is, w.labels-is, w.q-is, w.pad-is) (
             omega (arith, v.0),
             omega (arith, v.1),
@@ -55,7 +52,7 @@ loop-i-preserved c =
             left-turn _ v.5 (then (w.bind_label.ensures _ _) (w.put_edge-q.ensures _))
                 (pads_pad a.ws.now a.map.now a.e registers a.k l.pad l.i h (sym m ∙ w.if-has_moves.true) c.head_field-nowhere.ensures),
           )
-    | else-has_moves w ↦
+      | else-has_moves w ↦
           rw (w.ops-is, w.spans-is, w.labels-is, w.q-is, w.pad-is) (
             omega (arith, v.0),
             omega (arith, v.1),

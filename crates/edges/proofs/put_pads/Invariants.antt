@@ -9,7 +9,7 @@ use Rattle.edges.proofs.Padding.{pads_from}
 use Rattle.edges.proofs.put_pads.Given as goal
 
 abbrev pub invariant-loop-i : goal.invariant-loop-i
-invariant-loop-i l = 
+invariant-loop-i l =
     (l.i ≤ l.k) × (l.pad ≤ l.label + l.i) × (length l.ops ≡ length l.initial.ops) × (length l.spans ≡ length l.initial.spans) × (length l.labels ≡ length l.initial.labels)
     × Left (pads_from l.ws l.map l.e registers l.k l.pad l.i) (pads registers l.ws l.map l.label l.e l.k) l.initial.ops l.initial.spans l.initial.labels l.initial.q l.ops l.spans l.labels l.q
 

@@ -1,5 +1,5 @@
 -- What is left to define, over the table as it is, gives the whole: a turn defines one, or stops at it.
-use Rattle.std.proofs.Common.{◌-◌, true, refl, ap, ◌∙◌}
+use Rattle.std.proofs.Common.{true, refl, ap, ◌∙◌}
 use Rattle.rows.specs.Rows.{row_defs}
 use Rattle.fit.specs.Tabled.{marks, Marks}
 use Rattle.fit.proofs.Counts.{counted_start}

@@ -6,7 +6,7 @@ use Rattle.fit.specs.Tabled.{marks, marked}
 use Rattle.fit.proofs.define_params.Given as goal
 
 abbrev pub invariant-loop-j : goal.invariant-loop-j
-invariant-loop-j l = 
+invariant-loop-j l =
     (length l.table ≡ length l.initial.table)
     × (marked (refs l.r (list_at l.ws (l.at + l.j) (l.n - l.j))) (marks l.table true) ≡ marked (refs l.r (list_at l.ws l.at l.n)) (marks l.initial.table true))
 

@@ -1,5 +1,5 @@
 -- The edges that are left to check answer for all of them.
-use Rattle.std.proofs.Common.{◌-◌, sym, ◌∙◌}
+use Rattle.std.proofs.Common.{sym, ◌∙◌}
 use Rattle.fit.proofs.Counts.{counted_start, check_fails, check_goes, check_ends}
 use Rattle.fit.proofs.Checks.{edges-counted}
 use Rattle.fit.proofs.fit_edges.Goals as goal

@@ -6,7 +6,7 @@ use Rattle.fit.specs.Tabled.{Tabled}
 use Rattle.fit.proofs.fit_edges.Given as goal
 
 abbrev pub invariant-loop-j : goal.invariant-loop-j
-invariant-loop-j l = 
+invariant-loop-j l =
     (ds : List Ref) → Tabled l.rows ds
     → fit_edges l.ws ds l.r (l.first + l.j) (l.n - l.j) ≡ fit_edges l.ws ds l.r l.first l.n
 

@@ -1,5 +1,5 @@
 -- The uses that are left to check answer for all of them.
-use Rattle.std.proofs.Common.{◌-◌, sym, ◌∙◌}
+use Rattle.std.proofs.Common.{sym, ◌∙◌}
 use Rattle.fit.proofs.Counts.{counted_start, check_fails, check_goes, check_ends}
 use Rattle.fit.proofs.Checks.{uses_counted}
 use Rattle.fit.proofs.fit_uses.Goals as goal

@@ -7,7 +7,7 @@ use Rattle.fit.specs.Tabled.{Tabled}
 use Rattle.fit.proofs.fit_uses.Given as goal
 
 abbrev pub invariant-loop-j : goal.invariant-loop-j
-invariant-loop-j l = 
+invariant-loop-j l =
     (ds : List Ref) → Tabled l.rows ds
     → fit_uses l.ws ds (refs l.r (list_at l.ws (l.at + l.j) (l.n - l.j))) ≡ fit_uses l.ws ds (refs l.r (list_at l.ws l.at l.n))
 

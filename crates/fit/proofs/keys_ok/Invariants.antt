@@ -5,7 +5,7 @@ use Rattle.fit.proofs.Ranks.{keys_from}
 use Rattle.fit.proofs.keys_ok.Given as goal
 
 abbrev pub invariant-loop-left : goal.invariant-loop-left
-invariant-loop-left l = 
+invariant-loop-left l =
     (l.c + 256 * l.left ≤ l.first + 256 * l.n) × (l.low ≤ 18446744073709551615)
     × (keys_from l.ws l.low l.high (keys_at l.step l.c l.left) ≡ keys_ok l.ws (keys_at l.step l.first l.n))
 

@@ -1,6 +1,5 @@
 -- What is left of the body's ops gives the frame, and the pen, which has room for all of it, is never full.
 use mathlib.Core.Path.{refl}
-use Prim.Native.Nat.{◌-◌}
 use mathlib.Core.List.{[]}
 use native.Mathlib.Omega.{arith}
 use lib.ListN.{take}

@@ -1,9 +1,7 @@
 -- What is left to resolve gives the whole: one law each for the start, a turn and the end.
 use mathlib.Core.Path.{refl}
-use Prim.Native.Nat.{◌-◌}
 use native.Mathlib.Omega.{arith}
 use Rattle.base.proofs.Pens.{left-turn, left_end}
-use Rattle.frame.specs.Frames.{resolve}
 use Rattle.frame.proofs.Resolving.{resolve-start, resolve-turn, resolve-end, lowers_resolve}
 use Rattle.frame.proofs.resolve_all.Goals as goal
 

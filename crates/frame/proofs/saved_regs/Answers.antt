@@ -1,8 +1,7 @@
 -- The registers that stand there and those that are left give them all.
 use mathlib.Core.Path.{refl, ◌∙◌}
-use Prim.Native.Nat.{◌-◌}
 use native.Mathlib.Omega.{arith}
-use lib.ListN.{length, length-set}
+use lib.ListN.{length-set}
 use Rattle.frame.proofs.Saving.{saved-turn, saved-end}
 use Rattle.frame.proofs.saved_regs.Goals as goal
 

@@ -1,8 +1,7 @@
 -- The registers that stand there and those that are left give them all.
 use mathlib.Core.Path.{refl, ◌∙◌}
-use Prim.Native.Nat.{◌-◌}
 use native.Mathlib.Omega.{arith}
-use lib.ListN.{length, take, length-set}
+use lib.ListN.{take, length-set}
 use Rattle.frame.proofs.Saving.{slots_start, slots_turn, slots_end}
 use Rattle.frame.proofs.slot_regs.Goals as goal
 
@@ -26,8 +25,7 @@ loop-s-smaller c = omega arith
 pub loop-s-preserved : goal.loop-s-preserved
 loop-s-preserved c =
     let now = c.loop-s in
-    let v = now.invariant in
-    (
+    let v = now.invariant in (
       omega (arith, v.0),
       omega arith,
       simp length-set v.2,

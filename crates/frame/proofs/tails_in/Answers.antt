@@ -1,6 +1,5 @@
 -- What is counted and what is left to count give the whole.
 use mathlib.Core.Path.{sym, ◌∙◌}
-use Prim.Native.Nat.{◌-◌}
 use native.Mathlib.Omega.{arith}
 use Rattle.frame.proofs.Lengths.{tails_turn, tails_end}
 use Rattle.frame.proofs.tails_in.Goals as goal

@@ -12,7 +12,7 @@ pub loop-j-init : goal.loop-j-init
 loop-j-init c = let a = c.args in (
   refl,
   λ s pool k. left_all (λ (i m : ℕ). run a.ws.now pool (edges_hints a.ws.now a.b i m) (walk s a.map.now a.wish.now k)) a.first a.n,
-    )
+)
 
 pub overflow_add-first : goal.overflow_add-first
 overflow_add-first c = omega (arith, c.loop-j-test.true, c.requires)

@@ -1,6 +1,6 @@
 -- What is left of the edges from j on: each turn takes the steps of one.
 use mathlib.Core.List.{List}
-use mathlib.Core.Path.{◌≡◌, ap}
+use mathlib.Core.Path.{◌≡◌}
 use Prim.Native.Nat.{ℕ, ◌+◌, ◌-◌}
 use lib.ListN.{length}
 use Rattle.alloc.specs.declared.Alloc.{Alloc}

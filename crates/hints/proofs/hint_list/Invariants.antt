@@ -1,6 +1,6 @@
 -- What is left to hint from j on: each turn takes one step of the run.
 use mathlib.Core.List.{List}
-use mathlib.Core.Path.{◌≡◌, ap}
+use mathlib.Core.Path.{◌≡◌}
 use Prim.Native.Nat.{ℕ, ◌+◌, ◌-◌}
 use lib.ListN.{length}
 use Rattle.alloc.specs.declared.Alloc.{Alloc}

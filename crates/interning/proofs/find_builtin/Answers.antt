@@ -1,5 +1,4 @@
 -- The builtins from the i-th on decide which it is.
-use Prim.Native.Nat.{◌-◌}
 use Rattle.interning.proofs.Found.{builtin_start, builtin_here, builtin_on, builtin_end}
 use Rattle.interning.proofs.find_builtin.Goals as goal
 

@@ -1,6 +1,5 @@
 -- The constants from the i-th on decide which it is.
 use mathlib.Core.Path.{sym, ◌∙◌}
-use Prim.Native.Nat.{◌-◌}
 use Rattle.interning.proofs.Found.{global_start, global_here, global_on, global_end}
 use Rattle.interning.proofs.find_global.Goals as goal
 

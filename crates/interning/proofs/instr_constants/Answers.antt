@@ -11,13 +11,13 @@ pub returns-then-not-strings : goal.returns-then-not-strings
 returns-then-not-strings c = (
   omega arith,
   loads_none c.args.ws.now c.args.i c.args.strings (λ e. c.if-kind-eq-LOAD_CONST.false (c.instr_field-kind.ensures ∙ e)) (c.if-not-strings.true),
-    )
+)
 
 pub returns-then-kind-ne-LOOKUP : goal.returns-then-kind-ne-LOOKUP
 returns-then-kind-ne-LOOKUP c = (
   omega arith,
   looks_none c.args.ws.now c.args.i c.args.strings (λ e. c.if-kind-eq-LOAD_CONST.false (c.instr_field-kind.ensures ∙ e)) (λ e. c.if-kind-ne-LOOKUP.true (c.instr_field-kind.ensures ∙ e)),
-    )
+)
 
 pub returns : goal.returns
 returns c =

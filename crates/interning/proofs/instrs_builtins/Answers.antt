@@ -1,6 +1,5 @@
 -- The instructions from the j-th on are left.
 use mathlib.Core.Path.{refl, ◌∙◌}
-use Prim.Native.Nat.{◌-◌}
 use native.Mathlib.Omega.{arith}
 use Rattle.interning.specs.Interning.{row_builtins}
 use Rattle.interning.proofs.Passes.{instrs_start, instrs_turn, instrs_end}

@@ -1,6 +1,5 @@
 -- The blocks from b on are left.
 use mathlib.Core.Path.{refl, ◌∙◌}
-use Prim.Native.Nat.{◌-◌}
 use native.Mathlib.Omega.{arith}
 use Rattle.interning.specs.Interning.{row_builtins, builtins_after}
 use Rattle.interning.proofs.Passes.{blocks_start, blocks-turn, blocks_end}

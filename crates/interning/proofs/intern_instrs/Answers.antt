@@ -1,6 +1,5 @@
 -- The instructions from the j-th on are left.
 use mathlib.Core.Path.{refl, ◌∙◌}
-use Prim.Native.Nat.{◌-◌}
 use native.Mathlib.Omega.{arith}
 use Rattle.interning.proofs.Passes.{instrs_start, instrs_turn, instrs_end}
 use Rattle.interning.proofs.Interned.{asked_by, rows_by, constants_in_turn}

@@ -8,7 +8,7 @@ use Rattle.interning.proofs.Interned.{asked_by, rows_by}
 use Rattle.interning.proofs.intern_instrs.Given as goal
 
 abbrev pub invariant-loop-j : goal.invariant-loop-j
-invariant-loop-j l = 
+invariant-loop-j l =
     (length l.globals ≡ length l.initial.globals) × InstrsLeft (intern_all (asked_by l.strings) l.ws) (rows_by l.strings l.ws) l.first l.n l.initial.globals l.initial.f l.j l.globals l.f
 
 abbrev pub decreases-loop-j : goal.decreases-loop-j

@@ -1,6 +1,5 @@
 -- The blocks from b on are left.
 use mathlib.Core.Path.{refl, ◌∙◌}
-use Prim.Native.Nat.{◌-◌}
 use native.Mathlib.Omega.{arith}
 use Rattle.interning.proofs.Passes.{blocks_start, blocks-turn, blocks_end}
 use Rattle.interning.proofs.Interned.{asked_by, rows_by, constants_in_turn}

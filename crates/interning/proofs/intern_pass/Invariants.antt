@@ -8,7 +8,7 @@ use Rattle.interning.proofs.Interned.{asked_by, rows_by}
 use Rattle.interning.proofs.intern_pass.Given as goal
 
 abbrev pub invariant-loop-b : goal.invariant-loop-b
-invariant-loop-b l = 
+invariant-loop-b l =
     (length l.globals ≡ length l.initial.globals) × BlocksLeft (intern_all (asked_by l.strings) l.ws) (rows_by l.strings l.ws) l.ws l.end l.initial.globals l.initial.f l.b l.globals l.f
 
 abbrev pub decreases-loop-b : goal.decreases-loop-b

@@ -6,7 +6,7 @@ use Rattle.interning.proofs.Interned.{RunLeft}
 use Rattle.interning.proofs.intern_run.Given as goal
 
 abbrev pub invariant-loop-left : goal.invariant-loop-left
-invariant-loop-left l = 
+invariant-loop-left l =
     (length l.globals ≡ length l.initial.globals) × (l.c + l.left ≡ l.first + l.n) × RunLeft l.strings l.ws l.first l.n l.initial.globals l.initial.f l.c l.left l.globals l.f
 
 abbrev pub decreases-loop-left : goal.decreases-loop-left

@@ -1,11 +1,9 @@
 -- A live block's answer is that of its first part that fails, and its rows are few and its instructions there by then.
 -- what the pass asks of a row
-use mathlib.Core.Bool.{true}
 use mathlib.Core.List.{[]}
 use mathlib.Core.Path.{sym, ◌∙◌}
 use native.Mathlib.Omega.{arith}
 use borrow.Author.Tests.{eq-eqb, ne_eqb}
-use lib.ListN.{length}
 use Rattle.input.specs.Layout.{head_field}
 use Rattle.rows.proofs.Every.{length-live, every-dead, live_params, live_instrs, live_term}
 use Rattle.judge.specs.Passes.{row_ok}
@@ -26,9 +24,15 @@ pub instrs_pass-requires : goal.instrs_pass-requires
 unfolding head_field
 instrs_pass-requires c =
     let known = c.type_inv.ws 5 in (
-      omega (arith, (let a = c.args in
-    passed_placed a.which a.ws.now [] [] a.r a.b c.requires.1 ((eq-eqb _ _ (sym c.block_field.ensures ∙ c.if-block_field-ne0.false)))
-    (sym (c.params_pass.ensures [] []) ∙ c.if-not-params_pass.false)), c.block_field-first.ensures, c.block_field-n.ensures, known),
+      omega (
+        arith,
+        (let a = c.args in
+            passed_placed a.which a.ws.now [] [] a.r a.b c.requires.1 ((eq-eqb _ _ (sym c.block_field.ensures ∙ c.if-block_field-ne0.false)))
+            (sym (c.params_pass.ensures [] []) ∙ c.if-not-params_pass.false)),
+        c.block_field-first.ensures,
+        c.block_field-n.ensures,
+        known,
+      ),
       omega (arith, (length-live c.args.ws.now c.args.b ((eq-eqb _ _ (sym c.block_field.ensures ∙ c.if-block_field-ne0.false)))), c.block_field-n.ensures, c.requires.0),
     )
 

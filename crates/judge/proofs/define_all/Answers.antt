@@ -1,7 +1,5 @@
 -- The invariant: r rows stand before block b, and what is left to define, over the table as it is, gives the whole.
-use mathlib.Core.Bool.{true}
 use mathlib.Core.Path.{refl, ◌∙◌}
-use Prim.Native.Nat.{◌-◌}
 use native.Mathlib.Omega.{arith}
 use Rattle.rows.specs.Rows.{row_defs}
 use Rattle.rows.proofs.Every.{before-start, before-turn, before_fits, over-blocks-start, over-blocks, over-blocks-end}

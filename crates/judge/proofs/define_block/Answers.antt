@@ -1,6 +1,5 @@
 -- A live block's definitions are its parameters and then its instructions' destinations: the first that has a row already stops.
 -- no tombstone: at the place where the parameters are lent the table
-use mathlib.Core.Bool.{true}
 use mathlib.Core.Path.{sym, ◌∙◌}
 use native.Mathlib.Omega.{arith}
 use borrow.Author.Tests.{eq-eqb, ne_eqb}

@@ -1,7 +1,5 @@
 -- The invariant: what is left to define, over the table as it is, gives the whole.
-use mathlib.Core.Bool.{true}
 use mathlib.Core.Path.{refl, ◌∙◌}
-use Prim.Native.Nat.{◌-◌}
 use Rattle.rows.specs.Rows.{row_defs}
 use Rattle.rows.proofs.Every.{over_instrs_start, over_instrs, over_instrs_end}
 use Rattle.judge.proofs.Fills.{fill_go, fill_stop, fill_none}

@@ -1,5 +1,4 @@
 -- The invariant: the instructions from the j-th on decide the answer.
-use Prim.Native.Nat.{◌-◌}
 use Rattle.rows.proofs.Every.{instrs_start, instrs_go, instrs_stop, instrs_done}
 use Rattle.judge.specs.Passes.{row_ok}
 use Rattle.judge.proofs.instrs_pass.Goals as goal

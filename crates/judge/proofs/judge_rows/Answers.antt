@@ -1,10 +1,8 @@
 -- Each test that led to a return is the next choice of `unfit_rows`. Where refusal 4 does not apply the table holds every value's row.
 -- ---- in shape
-use mathlib.Core.Bool.{true}
 use mathlib.Core.Logic.{inr}
 use mathlib.Core.Path.{sym, ◌∙◌}
 use Rattle.rows.specs.Rows.{defs_of}
-use Rattle.shape.specs.Shape.{shape_ok}
 use Rattle.judge.proofs.Lowest.{bad_shape, double_def, bad_interval, unknown_func, bad_key, no_refusal}
 use Rattle.judge.proofs.Rooms.{rows-filled}
 use Rattle.judge.proofs.Shapes.{shape_given, rows-placed}

@@ -1,7 +1,7 @@
 -- The invariant: r rows stand before block b, and the blocks from b on decide the answer.
 use mathlib.Core.Logic.{inl, inr, ⊎_elim}
 use mathlib.Core.Path.{◌≡◌}
-use Prim.Native.Nat.{ℕ, ◌-◌, ◌<◌}
+use Prim.Native.Nat.{ℕ, ◌<◌}
 use native.Mathlib.Omega.{arith}
 use Rattle.input.specs.Layout.{blocks}
 use Rattle.rows.proofs.Every.{before-start, before-turn, before_fits, blocks_start, blocks_go, blocks-stop, blocks-done}

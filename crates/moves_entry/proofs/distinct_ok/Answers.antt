@@ -1,6 +1,5 @@
 -- The invariant: the first n are distinct where those from i on are, and none before i stands again.
 use mathlib.Core.Path.{refl, sym, ap, ◌∙◌}
-use Prim.Native.Nat.{◌-◌}
 use native.Mathlib.Omega.{arith}
 use Rattle.base.specs.Lists.{distinct}
 use Rattle.base.proofs.Lists.{past}

@@ -11,6 +11,6 @@ returns c =
     let a = c.args in
     let g = c.gather-c.ensures in (
       c.emit_columns.ensures ∙ ap (λ (d : Columns). columns_outcome registers d a.used a.span a.ops.now a.spans.now) g.0
-      ∙ list_outcome registers a.list.now a.used a.span a.ops.now a.spans.now,
+          ∙ list_outcome registers a.list.now a.used a.span a.ops.now a.spans.now,
       g.1,
     )

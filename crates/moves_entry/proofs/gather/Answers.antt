@@ -2,7 +2,7 @@
 use mathlib.Core.Path.{refl}
 use native.Mathlib.Omega.{arith}
 use native.Mathlib.Numerals.{add-one}
-use Rattle.moves_entry.proofs.Gathering.{Gathered, gathered_start, gathered_turn, gathered_end}
+use Rattle.moves_entry.proofs.Gathering.{gathered_start, gathered_turn, gathered_end}
 use Rattle.moves_entry.proofs.gather.Goals as goal
 
 pub loop-i-init : goal.loop-i-init

@@ -1,6 +1,5 @@
 -- The invariant: what is judged of the first n is what is judged of those from i on.
 use mathlib.Core.Path.{refl, sym, ap, ◌∙◌}
-use Prim.Native.Nat.{◌-◌}
 use native.Mathlib.Omega.{arith}
 use Rattle.base.proofs.Lists.{past}
 use Rattle.place.specs.Registers.{registers}

@@ -1,6 +1,5 @@
 -- The invariant: x stands from `from` on where it stands from i on.
 use mathlib.Core.Path.{refl, sym, ap, ◌∙◌}
-use Prim.Native.Nat.{◌-◌}
 use native.Mathlib.Omega.{arith}
 use borrow.Author.Tests.{eq-eqb, ne_eqb}
 use Rattle.base.specs.Lists.{among}

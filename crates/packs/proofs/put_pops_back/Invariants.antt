@@ -1,6 +1,6 @@
 -- What is left of the pops gives the whole: a law for a turn with three registers, and the call for the last ones.
 use mathlib.Core.Path.{◌≡◌}
-use Prim.Native.Nat.{ℕ, ◌-◌, ◌≤◌}
+use Prim.Native.Nat.{ℕ, ◌≤◌}
 use mathlib.Core.List.{List, map, reverse}
 use lib.ListN.{length, take}
 use Rattle.base.specs.Emission.{emit_all}

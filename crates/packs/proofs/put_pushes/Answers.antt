@@ -1,6 +1,5 @@
 -- What is left of the pushes gives the whole: a law for a turn with three registers, and the call for the last ones.
 use mathlib.Core.Path.{refl}
-use Prim.Native.Nat.{◌-◌}
 use native.Mathlib.Omega.{arith}
 use Rattle.base.proofs.Pens.{left_as, left-turn}
 use Rattle.packs.proofs.Packs.{push-start, push_three, push-rest, left_last}

@@ -1,7 +1,5 @@
 -- The law of loops over records, with the counts of a block.
-use Prim.Native.Nat.{◌-◌}
 use mathlib.Core.Path.{sym, ◌∙◌}
-use Rattle.shape.specs.Counts.{block_counts}
 use Rattle.input.proofs.Each.{left_all, left-turn, left-stop, left-done}
 use Rattle.shape.proofs.blocks_counts.Goals as goal
 

@@ -1,9 +1,8 @@
 -- The law of loops over records, with the shape of an edge; the edges lie within a table of fewer than 2 ^ 32.
-use Prim.Native.Nat.{◌+◌, ◌-◌}
+use Prim.Native.Nat.{◌+◌}
 use mathlib.Core.Path.{sym, ◌∙◌}
 use native.Mathlib.Omega.{arith}
 use borrow.Author.Tests.{leb-true, not-true, not-false}
-use Rattle.shape.specs.Shape.{edge_shape}
 use Rattle.input.proofs.Each.{left-part, left-turn, left-stop, left-done}
 use mathlib.Core.Bool.{not}
 use mathlib.Core.Path.{ap}

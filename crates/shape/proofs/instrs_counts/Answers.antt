@@ -1,7 +1,5 @@
 -- The law of loops over records, with the counts of an instruction.
-use Prim.Native.Nat.{◌-◌}
 use mathlib.Core.Path.{sym, ◌∙◌}
-use Rattle.shape.specs.Counts.{instr_counts}
 use Rattle.input.proofs.Each.{left_all, left-turn, left-stop, left-done}
 use Rattle.shape.proofs.instrs_counts.Goals as goal
 

@@ -1,5 +1,4 @@
 -- The law of loops over a list of the pool; it runs where the list lies within the pool.
-use Prim.Native.Nat.{◌-◌}
 use borrow.Author.Tests.{lt-ltb, le-ltb, not-true, not-false}
 use Rattle.input.proofs.Each.{left-turn, left-stop, left-done}
 use Rattle.shape.proofs.Loops.{left_list}

@@ -1,8 +1,6 @@
 -- The law of loops over records, with tombstones; a block's number is below a count of 32 bits.
-use Prim.Native.Nat.{◌-◌}
 use mathlib.Core.Path.{sym}
 use borrow.Author.Tests.{eq-eqb, ne_eqb}
-use Rattle.input.specs.Layout.{blocks}
 use Rattle.input.proofs.Each.{left-turn, left-stop, left-done}
 use Rattle.shape.proofs.Loops.{left-blocks}
 use Rattle.shape.proofs.none_live.Goals as goal

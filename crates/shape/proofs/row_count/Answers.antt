@@ -1,5 +1,4 @@
 -- The law of the sum over blocks; with fewer than 2 ^ 32 blocks it fits 64 bits.
-use Prim.Native.Nat.{◌-◌}
 use native.Mathlib.Omega.{arith}
 use Rattle.shape.proofs.Loops.{rows_start, rows-turn, rows-done}
 use Rattle.shape.proofs.row_count.Goals as goal

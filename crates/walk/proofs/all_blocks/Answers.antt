@@ -72,6 +72,9 @@ shape_of-noted c = c.loop-b.invariant.1.2
 
 pub returns : goal.returns
 returns c = let a = c.args in
-    let l = c.loop-b in record { good_2 = l.invariant.2; noted_after = rw (sym c.head_field-n.ensures)
+    let l = c.loop-b in record {
+      good_2 = l.invariant.2;
+      noted_after = rw (sym c.head_field-n.ensures)
           (sym (blocks_end a.ws.now a.pool.now l.row l.b c.head_field-n.result (walk l.t l.map l.wish l.noted) c.loop-b-test.false)
-          ∙ l.invariant.3) }
+          ∙ l.invariant.3);
+    }

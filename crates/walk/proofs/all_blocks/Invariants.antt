@@ -1,5 +1,5 @@
 -- What is left of the rows from block b on: each turn takes those of one block.
-use mathlib.Core.Path.{◌≡◌, ap}
+use mathlib.Core.Path.{◌≡◌}
 use Prim.Native.Nat.{◌+◌, ◌-◌}
 use lib.ListN.{length}
 use Rattle.alloc.specs.Good.{Good}

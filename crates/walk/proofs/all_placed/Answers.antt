@@ -1,7 +1,6 @@
 -- What is left to ask from block b on: each turn passes one block.
 use mathlib.Core.Path.{sym, ap, ◌∙◌}
 use native.Mathlib.Omega.{arith}
-use Prim.Native.Nat.{◌-◌}
 use Rattle.assign.specs.Fits.{rows_placed}
 use Rattle.walk.proofs.Rows.{from_all}
 use Rattle.walk.proofs.Placed.{blocks_go, blocks_fail, blocks-done}

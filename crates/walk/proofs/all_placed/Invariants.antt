@@ -1,5 +1,5 @@
 -- What is left to ask from block b on: each turn passes one block.
-use mathlib.Core.Path.{◌≡◌, ap}
+use mathlib.Core.Path.{◌≡◌}
 use Prim.Native.Nat.{◌-◌}
 use Rattle.rows.specs.Rows.{rows_from}
 use Rattle.assign.specs.Fits.{rows_placed}

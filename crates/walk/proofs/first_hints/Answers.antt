@@ -1,7 +1,6 @@
 -- What is left to store from v on: each turn stores one.
 use mathlib.Core.Path.{refl, sym, ◌∙◌}
 use native.Mathlib.Omega.{arith}
-use Prim.Native.Nat.{◌-◌}
 use Rattle.walk.proofs.Begin.{hints_all, hints-next, hints_last}
 use Rattle.walk.proofs.first_hints.Goals as goal
 
@@ -31,7 +30,7 @@ loop-v-preserved c = let l = c.loop-v in (
   c.set32.auto.a ∙ l.invariant.0,
   rw (c.set32.ensures, c.value_field.ensures)
       (sym (hints-next l.wish l.v c.head_field-n.result c.args.ws.now c.loop-v-test.true) ∙ l.invariant.1),
-    )
+)
 
 pub shape_of-wish : goal.shape_of-wish
 shape_of-wish c = c.loop-v.invariant.0

@@ -13,7 +13,7 @@ loop-j-init c = let a = c.args in (
   (refl, refl),
   c.requires.good,
   instrs_all a.ws.now a.pool.now a.row a.first a.n (walk a.s a.map.now a.wish.now a.noted.now),
-    )
+)
 
 pub overflow_add-row : goal.overflow_add-row
 overflow_add-row c = omega (arith, c.loop-j-test.true, c.requires.n_bound)
@@ -50,5 +50,8 @@ shape_of-noted c = c.loop-j.invariant.0.1
 
 pub returns : goal.returns
 returns c = let a = c.args in
-    let l = c.loop-j in record { good_2 = l.invariant.1; noted_after = sym (instrs_end a.ws.now a.pool.now a.row a.first l.j a.n (walk l.t l.map a.wish.now l.noted) c.loop-j-test.false)
-          ∙ l.invariant.2 }
+    let l = c.loop-j in record {
+      good_2 = l.invariant.1;
+      noted_after = sym (instrs_end a.ws.now a.pool.now a.row a.first l.j a.n (walk l.t l.map a.wish.now l.noted) c.loop-j-test.false)
+          ∙ l.invariant.2;
+    }

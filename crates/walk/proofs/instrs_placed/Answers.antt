@@ -1,7 +1,7 @@
 -- What is left to ask from j on: each turn passes one row.
 use mathlib.Core.Path.{sym, ◌∙◌}
 use native.Mathlib.Omega.{arith}
-use Prim.Native.Nat.{ℕ, ◌-◌}
+use Prim.Native.Nat.{ℕ}
 use Rattle.rows.specs.Rows.{instr_rows}
 use Rattle.assign.specs.Fits.{rows_placed}
 use Rattle.assign.proofs.Runs.{left_all}

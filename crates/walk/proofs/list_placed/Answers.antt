@@ -1,7 +1,7 @@
 -- What is left to ask from j on: each turn passes one value.
 use mathlib.Core.Path.{sym, ◌∙◌}
 use native.Mathlib.Omega.{arith}
-use Prim.Native.Nat.{ℕ, ◌-◌}
+use Prim.Native.Nat.{ℕ}
 use Rattle.input.specs.Layout.{list_at}
 use Rattle.rows.specs.Rows.{refs}
 use Rattle.assign.specs.Walk.{all_placed}

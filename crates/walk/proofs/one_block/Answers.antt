@@ -32,7 +32,10 @@ returns c = let a = c.args in
     let ws = a.ws.now in
     let pool = a.pool.now in
     let n : ℕ = instr_count ws a.b in
-    let w : Walk = walk a.s a.map.now a.wish.now a.noted.now in record { good_2 = c.block_instrs-u.ensures.good_2; noted_after = c.block_edges.ensures c.block_instrs-u.result pool c.block_instrs-u.new.noted (a.row + 1 + n)
+    let w : Walk = walk a.s a.map.now a.wish.now a.noted.now in record {
+      good_2 = c.block_instrs-u.ensures.good_2;
+      noted_after = c.block_edges.ensures c.block_instrs-u.result pool c.block_instrs-u.new.noted (a.row + 1 + n)
           ∙ ap (run ws pool (row_steps ws (a.row + 1 + n) (term a.b)))
           (c.block_instrs-u.ensures.noted_after ∙ ap (run_rows ws pool (a.row + 1) (instr_rows (first_instr ws a.b) n)) (c.param_list-t.ensures.by_index a.noted.now))
-          ∙ sym (live-run ws a.b pool a.row w (rw c.block_field-dead.ensures at c.if-dead-ne0.false)) }
+          ∙ sym (live-run ws a.b pool a.row w (rw c.block_field-dead.ensures at c.if-dead-ne0.false));
+    }

@@ -1,8 +1,7 @@
 -- What is left to store from i on: each turn stores one.
 use mathlib.Core.Path.{refl, sym, ◌∙◌}
 use native.Mathlib.Omega.{arith}
-use Prim.Native.Nat.{◌-◌}
-use lib.ListN.{length, length-set}
+use lib.ListN.{length-set}
 use Rattle.walk.proofs.Begin.{pool_all, pool-next, pool_last, pool-whole}
 use Rattle.walk.proofs.pool_of.Goals as goal
 
