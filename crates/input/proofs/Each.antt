@@ -6,7 +6,7 @@ use Prim.Native.Nat.{ℕ, zero, suc, ◌+◌, ◌-◌, ◌<◌, ◌≤◌}
 use native.Mathlib.Nat.{not-suc-le-zero}
 use native.Mathlib.Omega.{arith}
 use Rattle.base.specs.Choice.{pick}
-use Rattle.input.specs.Forms.{both, each}
+use Rattle.input.specs.Forms.{each}
 use Rattle.input.proofs.Chain.{both-parts}
 
 -- The records from k up to `end` decide the answer r.

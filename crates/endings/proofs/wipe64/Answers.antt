@@ -10,9 +10,6 @@ use Rattle.base.specs.Buffers.{zero_from}
 use Rattle.endings.proofs.Wipes.{records-in, within_too, wipes, stays, wiped-past}
 use Rattle.endings.proofs.wipe64.Goals as goal
 
--- OLD div-if1 : tie.Need-nonzero-div-if1
--- div-if1 c = search rules
-
 pub overflow_mul-words : goal.overflow_mul-words
 overflow_mul-words c = let a = c.args in
     let t = within_too (eqb a.k 0) (leb a.used (length a.buf.now / a.words)) c.if-k-used.true in

@@ -1,7 +1,5 @@
 -- The invariant: the records from i on decide of all n.
 use mathlib.Core.Path.{refl, sym, ◌∙◌}
-use Prim.Native.Nat.{◌-◌}
-use Rattle.input.specs.Forms.{constant_ok}
 use Rattle.input.proofs.Each.{left_all, left-turn, left-stop, left-done}
 use Rattle.input.proofs.each_constant.Goals as goal
 

@@ -2,17 +2,10 @@
 use mathlib.Core.Path.{sym}
 use Prim.Native.Nat.{◌+◌, ◌*◌, ◌≤◌}
 use native.Mathlib.Omega.{arith}
-use borrow.Author.Rules.{rules}
 use lib.ListN.{get_or-eq_default}
 use Rattle.input.specs.Forms.{instr_forms}
 use Rattle.input.proofs.Rows.{row_field}
 use Rattle.input.proofs.instr_form.Goals as goal
-
--- OLD index-1-result : tie.Need-bounds-1-result
--- index-1-result c = search rules
-
--- OLD index-2-result : tie.Need-bounds-2-result
--- index-2-result c = search rules
 
 pub returns-then-kind-lt13 : goal.returns-then-kind-lt13
 unfolding instr_forms

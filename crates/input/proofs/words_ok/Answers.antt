@@ -2,7 +2,7 @@
 use mathlib.Core.Path.{◌≡◌, sym, ◌∙◌}
 use mathlib.Core.Bool.{true}
 use Rattle.input.specs.Layout.{values, blocks, instructions}
-use Rattle.input.specs.Forms.{head_ok, value_ok, block_ok, instr_ok, each, words_ok}
+use Rattle.input.specs.Forms.{value_ok, block_ok, instr_ok, each, words_ok}
 use Rattle.input.proofs.words_ok.Goals as goal
 
 pub returns-then-not-head_ok : goal.returns-then-not-head_ok

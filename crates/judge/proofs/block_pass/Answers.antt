@@ -1,5 +1,4 @@
 -- A live block's answer is that of its first part that fails, and its rows are few and its instructions there by then.
--- what the pass asks of a row
 use mathlib.Core.List.{[]}
 use mathlib.Core.Path.{sym, ◌∙◌}
 use native.Mathlib.Omega.{arith}
@@ -17,45 +16,44 @@ returns-then-block_field-ne0 c =
 
 pub returns-then-not-params_pass : goal.returns-then-not-params_pass
 returns-then-not-params_pass c =
-    λ ds t. live_params (row_ok c.args.which c.args.ws.now c.args.functions.now ds) c.args.ws.now c.args.r c.args.b ((eq-eqb _ _ (sym c.block_field.ensures ∙ c.if-block_field-ne0.false)))
-    (c.params_pass.ensures c.args.functions.now ds) (c.if-not-params_pass.true)
+    let live = eq-eqb _ _ (sym c.block_field.ensures ∙ c.if-block_field-ne0.false) in
+    λ ds t. live_params (row_ok c.args.which c.args.ws.now c.args.functions.now ds) c.args.ws.now c.args.r c.args.b live
+    (c.params_pass.ensures c.args.functions.now ds) c.if-not-params_pass.true
 
 pub instrs_pass-requires : goal.instrs_pass-requires
 unfolding head_field
 instrs_pass-requires c =
-    let known = c.type_inv.ws 5 in (
-      omega (
-        arith,
-        (let a = c.args in
-            passed_placed a.which a.ws.now [] [] a.r a.b c.requires.1 ((eq-eqb _ _ (sym c.block_field.ensures ∙ c.if-block_field-ne0.false)))
-            (sym (c.params_pass.ensures [] []) ∙ c.if-not-params_pass.false)),
-        c.block_field-first.ensures,
-        c.block_field-n.ensures,
-        known,
-      ),
-      omega (arith, (length-live c.args.ws.now c.args.b ((eq-eqb _ _ (sym c.block_field.ensures ∙ c.if-block_field-ne0.false)))), c.block_field-n.ensures, c.requires.0),
+    let a = c.args in
+    let live = eq-eqb _ _ (sym c.block_field.ensures ∙ c.if-block_field-ne0.false) in
+    let placed = passed_placed a.which a.ws.now [] [] a.r a.b c.requires.1 live (sym (c.params_pass.ensures [] []) ∙ c.if-not-params_pass.false) in (
+      omega (arith, placed, c.block_field-first.ensures, c.block_field-n.ensures, c.type_inv.ws 5),
+      omega (arith, length-live a.ws.now a.b live, c.block_field-n.ensures, c.requires.0),
     )
 
 pub returns-then-not-instrs_pass : goal.returns-then-not-instrs_pass
 returns-then-not-instrs_pass c =
     let n = c.block_field-n.ensures in
     let first = c.block_field-first.ensures in
-    λ ds t. live_instrs (row_ok c.args.which c.args.ws.now c.args.functions.now ds) c.args.ws.now c.args.r c.args.b ((eq-eqb _ _ (sym c.block_field.ensures ∙ c.if-block_field-ne0.false)))
+    let live = eq-eqb _ _ (sym c.block_field.ensures ∙ c.if-block_field-ne0.false) in
+    λ ds t. live_instrs (row_ok c.args.which c.args.ws.now c.args.functions.now ds) c.args.ws.now c.args.r c.args.b live
     (c.params_pass.ensures c.args.functions.now ds) (rw (first, n) at (c.instrs_pass.ensures ds t))
-    (c.if-not-params_pass.false) (c.if-not-instrs_pass.true)
+    c.if-not-params_pass.false c.if-not-instrs_pass.true
 
 pub overflow_cast-n : goal.overflow_cast-n
 overflow_cast-n c =
-    omega (arith, (length-live c.args.ws.now c.args.b ((eq-eqb _ _ (sym c.block_field.ensures ∙ c.if-block_field-ne0.false)))), c.block_field-n.ensures, c.requires.0)
+    let live = eq-eqb _ _ (sym c.block_field.ensures ∙ c.if-block_field-ne0.false) in
+    omega (arith, length-live c.args.ws.now c.args.b live, c.block_field-n.ensures, c.requires.0)
 
 pub overflow_add-r-3 : goal.overflow_add-r-3
 overflow_add-r-3 c =
-    omega (arith, (length-live c.args.ws.now c.args.b ((eq-eqb _ _ (sym c.block_field.ensures ∙ c.if-block_field-ne0.false)))), c.block_field-n.ensures, c.requires.0)
+    let live = eq-eqb _ _ (sym c.block_field.ensures ∙ c.if-block_field-ne0.false) in
+    omega (arith, length-live c.args.ws.now c.args.b live, c.block_field-n.ensures, c.requires.0)
 
 pub returns : goal.returns
 returns c =
     let n = c.block_field-n.ensures in
     let first = c.block_field-first.ensures in
-    λ ds t. live_term (row_ok c.args.which c.args.ws.now c.args.functions.now ds) c.args.ws.now c.args.r c.args.b ((eq-eqb _ _ (sym c.block_field.ensures ∙ c.if-block_field-ne0.false)))
+    let live = eq-eqb _ _ (sym c.block_field.ensures ∙ c.if-block_field-ne0.false) in
+    λ ds t. live_term (row_ok c.args.which c.args.ws.now c.args.functions.now ds) c.args.ws.now c.args.r c.args.b live
     (c.params_pass.ensures c.args.functions.now ds) (rw (first, n) at (c.instrs_pass.ensures ds t))
-    (c.if-not-params_pass.false) (rw n at (c.term_pass.ensures ds t)) (c.if-not-instrs_pass.false)
+    c.if-not-params_pass.false (rw n at (c.term_pass.ensures ds t)) c.if-not-instrs_pass.false

@@ -1,5 +1,4 @@
 -- A live block's definitions are its parameters and then its instructions' destinations: the first that has a row already stops.
--- no tombstone: at the place where the parameters are lent the table
 use mathlib.Core.Path.{sym, ◌∙◌}
 use native.Mathlib.Omega.{arith}
 use borrow.Author.Tests.{eq-eqb, ne_eqb}
@@ -17,15 +16,17 @@ pub returns-then-not-define_params : goal.returns-then-not-define_params
 returns-then-not-define_params c =
     let call = c.define_params in
     let a = c.args in
-    block-stop a.ws.now a.r a.b a.table.now call.new.table ((eq-eqb _ _ (sym c.block_field.ensures ∙ c.if-block_field-ne0.false)))
-    (rw (c.if-not-define_params.true) at call.ensures)
+    let live = eq-eqb _ _ (sym c.block_field.ensures ∙ c.if-block_field-ne0.false) in
+    block-stop a.ws.now a.r a.b a.table.now call.new.table live
+    (rw c.if-not-define_params.true at call.ensures)
 
 pub define_instrs-requires : goal.define_instrs-requires
 unfolding head_field
 define_instrs-requires c =
+    let live = eq-eqb _ _ (sym c.block_field.ensures ∙ c.if-block_field-ne0.false) in
     let n = c.block_field-n.ensures in (
-      omega (arith, c.requires.1 ((eq-eqb _ _ (sym c.block_field.ensures ∙ c.if-block_field-ne0.false))), c.block_field-first.ensures, n, c.type_inv.ws 5),
-      omega (arith, length-live c.args.ws.now c.args.b ((eq-eqb _ _ (sym c.block_field.ensures ∙ c.if-block_field-ne0.false))), n, c.requires.0),
+      omega (arith, c.requires.1 live, c.block_field-first.ensures, n, c.type_inv.ws 5),
+      omega (arith, length-live c.args.ws.now c.args.b live, n, c.requires.0),
     )
 
 pub returns : goal.returns
@@ -34,6 +35,7 @@ returns c =
     let a = c.args in
     let n = c.block_field-n.ensures in
     let first = c.block_field-first.ensures in
-    block_go a.ws.now a.r a.b a.table.now call.new.table ((eq-eqb _ _ (sym c.block_field.ensures ∙ c.if-block_field-ne0.false)))
-    (rw (c.if-not-define_params.false) at call.ensures)
+    let live = eq-eqb _ _ (sym c.block_field.ensures ∙ c.if-block_field-ne0.false) in
+    block_go a.ws.now a.r a.b a.table.now call.new.table live
+    (rw c.if-not-define_params.false at call.ensures)
     (rw (first, n) at c.define_instrs.ensures)

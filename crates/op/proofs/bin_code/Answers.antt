@@ -4,9 +4,6 @@ use lib.ListN.{get_or-eq_default}
 use Rattle.op.specs.Ops.{bin_codes, bin_code}
 use Rattle.op.proofs.bin_code.Goals as goal
 
--- OLD array-read-result : tie.Need-array-read-result
--- array-read-result c = search rules
-
 pub returns-then-operator-lt17 : goal.returns-then-operator-lt17
 unfolding bin_codes bin_code
 returns-then-operator-lt17 c = refl

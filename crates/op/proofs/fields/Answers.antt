@@ -4,9 +4,6 @@ use lib.ListN.{get_or-eq_default}
 use Rattle.op.specs.Fields.{table, fields_of}
 use Rattle.op.proofs.fields.Goals as goal
 
--- OLD array-read-result : tie.Need-array-read-result
--- array-read-result c = search rules
-
 pub returns-then-code-lt61 : goal.returns-then-code-lt61
 unfolding table fields_of
 returns-then-code-lt61 c = refl

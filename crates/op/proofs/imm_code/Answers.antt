@@ -4,9 +4,6 @@ use lib.ListN.{get_or-eq_default}
 use Rattle.op.specs.Ops.{imm_codes, imm_code}
 use Rattle.op.proofs.imm_code.Goals as goal
 
--- OLD array-read-result : tie.Need-array-read-result
--- array-read-result c = search rules
-
 pub returns-then-operator-lt9 : goal.returns-then-operator-lt9
 unfolding imm_codes imm_code
 returns-then-operator-lt9 c = refl
