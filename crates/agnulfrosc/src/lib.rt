@@ -8,7 +8,7 @@ ghost use Rattle.first_checks.specs.Buffers.{lent};
 ghost use Rattle.compile.specs.Program.{answer_number};
 ghost use Rattle.strings.specs.Strings.{number_for, index_for, used_for};
 ghost use Rattle.compact.specs.Entry as entries;
-ghost use Rattle.moves_entry.specs.Entry as moveEntries;
+ghost use Rattle.moves_entry.specs.Entry as move_entries;
 ghost use Rattle.op.specs.Words as words;
 ghost use Rattle.op.specs.Words.{parts};
 ghost use Rattle.answers.specs.Answers.{used_words};
@@ -182,7 +182,7 @@ pub extern "C" fn agnulfrosc_compact(
 }
 
 fn emitted_numbers(r: Emitted) -> Numbers
-    ensures { (result.number ≡ moveEntries.answer_number r) × (result.used ≡ moveEntries.used_for r) }
+    ensures { (result.number ≡ move_entries.answer_number r) × (result.used ≡ move_entries.used_for r) }
 {
     match r {
         Emitted::Done(used) => Numbers {
