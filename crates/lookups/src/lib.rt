@@ -99,7 +99,7 @@ fn store_entries(ws: &[u32], values: &mut [u64], e: End, low: u64, start: usize,
 
 // The slots of a Lookup's table: the default's everywhere, then each entry's.
 fn lookup_slots(ws: &[u32], values: &mut [u64], e: End, k: Range, start: usize, i: u32) -> End
-    requires low_value { (k.low ≡ smallest ws.now (entry_keys ws.now i)) × (k.slots ≡ slot_count ws.now (entry_keys ws.now i)) × (start < 2 ^ 60) }
+    requires range { (k.low ≡ smallest ws.now (entry_keys ws.now i)) × (k.slots ≡ slot_count ws.now (entry_keys ws.now i)) × (start < 2 ^ 60) }
     requires keys_ready { KeysReady ws.now 2 (instr_x ws.now i) (instr_y ws.now i) }
     ensures { Grows (lookup_slots ws.now start i) values.old e values.new result }
 {

@@ -36,7 +36,7 @@ fn room_ok(ws: &[u32], map: &[u32], hints: &[u32], noted: &[u64]) -> bool
 // The places go into the first words of the map, and what is noted into those of the noted registers.
 fn give(ws: &[u32], map: &mut [u32], hints: &mut [u32], noted: &mut [u64]) -> Alloc
     requires ready { Ready ws.now }
-    requires noted_value { room_ok ws.now map.old hints.old noted.old ≡ true }
+    requires room { room_ok ws.now map.old hints.old noted.old ≡ true }
     ensures { (result ≡ (assigned registers ws.now).alloc) × (map.new ≡ sets map.old 0 (assigned registers ws.now).map) × (take (values ws.now) noted.new ≡ (assigned registers ws.now).noted) × Good result }
 {
     let n = input::head_field(ws, 3) as usize;

@@ -4,10 +4,10 @@ use Rattle.lookups.proofs.lookup_slots.Goals as goal
 
 pub store_entries-requires : goal.store_entries-requires
 store_entries-requires c =
-    record { start_bound = (c.requires.low_value.2, rw (c.instr_field-c.ensures, c.instr_field-n.ensures) c.requires.low_value.0); keys_ready = rw (c.instr_field-c.ensures, c.instr_field-n.ensures) c.requires.keys_ready }
+    record { start_bound = (c.requires.range.2, rw (c.instr_field-c.ensures, c.instr_field-n.ensures) c.requires.range.0); keys_ready = rw (c.instr_field-c.ensures, c.instr_field-n.ensures) c.requires.keys_ready }
 
 pub returns : goal.returns
 returns c =
     let a = c.args in
-    lookup-filled a.ws.now a.i a.start _ c.requires.low_value.1 c.put_default-f.ensures
+    lookup-filled a.ws.now a.i a.start _ c.requires.range.1 c.put_default-f.ensures
     (rw (c.instr_field-c.ensures, c.instr_field-n.ensures) at c.store_entries.ensures)

@@ -24,7 +24,7 @@ returns-then-heads c =
     let k = c.entry_range-k.ensures in record { start_value = (lookup-next a.ws.now a.i a.t.start h _ k.1, omega (arith, k.2)); grows = lookup_headed a.ws.now a.i a.t.start h _ _ a.heads c.if-heads.true k.0 k.1 c.lookup_head-f.ensures }
 
 pub lookup_slots-f-requires : goal.lookup_slots-f-requires
-lookup_slots-f-requires c = record { low_value = (c.entry_range-k.ensures.0, c.entry_range-k.ensures.1, c.requires.0); keys_ready = c.requires.1 (sym c.instr_field.ensures ∙ c.if-instr_field-ne-LOOKUP.false) }
+lookup_slots-f-requires c = record { range = (c.entry_range-k.ensures.0, c.entry_range-k.ensures.1, c.requires.0); keys_ready = c.requires.1 (sym c.instr_field.ensures ∙ c.if-instr_field-ne-LOOKUP.false) }
 
 pub returns : goal.returns
 returns c =

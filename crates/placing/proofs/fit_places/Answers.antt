@@ -15,7 +15,7 @@ returns-then-not-room c = let a = c.args in
     ends_no_room registers a.ws.now functions a.map.now a.hints.now a.noted.now fit (sym c.all_fit-fits.ensures ∙ c.if-not-fits.false) (sym c.room_ok-room.ensures ∙ c.if-not-room.true)
 
 pub give-s-requires : goal.give-s-requires
-give-s-requires c = record { ready = c.requires; noted_value = sym c.room_ok-room.ensures ∙ c.if-not-room.false }
+give-s-requires c = record { ready = c.requires; room = sym c.room_ok-room.ensures ∙ c.if-not-room.false }
 
 pub returns : goal.returns
 returns c = let a = c.args in

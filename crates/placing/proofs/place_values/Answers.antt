@@ -22,7 +22,7 @@ returns-then-not-wide c = let a = c.args in
 
 pub give-s-requires : goal.give-s-requires
 give-s-requires c =
-    record { ready = c.requires c.if-k-ne0.false; noted_value = sym c.room_ok-wide.ensures ∙ c.if-not-wide.false }
+    record { ready = c.requires c.if-k-ne0.false; room = sym c.room_ok-wide.ensures ∙ c.if-not-wide.false }
 
 pub overflow_cast-result : goal.overflow_cast-result
 overflow_cast-result c = omega (arith, c.give-s.ensures.3.capped)
