@@ -1,12 +1,10 @@
 // What the system says of a call that failed, as a line on standard error.
 ghost use Rattle.std.specs.Prelude.{◌≤◌, length};
 
+use opnames::Stream;
 use std::fmt;
 use std::fmt::Write;
 use std::io::Error;
-
-// The number of standard error.
-pub const STDERR_FILENO: i32 = 2;
 
 // The system's numbers for a name that is longer than any may be, and for bytes that are no text.
 pub const NAME_TOO_LONG: i32 = 36;
@@ -48,7 +46,11 @@ fn text_end(shown: &[u8]) -> usize
     shown.len()
 }
 
-// What failed, as the caller names it, a colon and the error's text.
+fn write(text: &[u8]) {
+    io::write_all(Stream::Error as i32, text);
+}
+
+// What failed, as the caller names it, a colon and the error's text. A path may be no text.
 pub fn fail(what: &[u8], error: &Error) {
     let mut shown = Shown {
         bytes: [0; 256],
@@ -56,8 +58,8 @@ pub fn fail(what: &[u8], error: &Error) {
     };
     let _ = shown.write(error);
     let end = text_end(&shown.bytes[..shown.len.min(256)]);
-    io::write_all(STDERR_FILENO, what);
-    io::write_all(STDERR_FILENO, b": ");
-    io::write_all(STDERR_FILENO, &shown.bytes[..end]);
-    io::write_all(STDERR_FILENO, b"\n");
+    write(what);
+    write(b": ");
+    write(&shown.bytes[..end]);
+    write(b"\n");
 }

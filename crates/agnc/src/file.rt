@@ -1,11 +1,10 @@
 // A program's file: words of 32 bits, least byte first. The first says how many words of 64 bits the function table has, then come these, low
-// half first, then the functions one behind the other. What is wrong with a file is said on standard error.
-ghost use Rattle.std.specs.Prelude.{◌≤◌, length};
+// half first, then the functions one behind the other.
+ghost use Rattle.std.specs.Prelude.{◌≤◌, length, IfOk};
 
-use crate::errors::{STDERR_FILENO, fail};
+use std::fmt;
 use std::fs::File;
-use std::io::Read;
-use std::num::wrapping_add_u32;
+use std::io::{Error, Read};
 
 // The words of the longest file, and its bytes with room for 65,536 more: a file that is too long is told from one that is not.
 pub type Words = [u32; 262144];
@@ -19,144 +18,106 @@ const MOST_BYTES: usize = 1114112;
 const MOST_IDS: usize = 4096;
 
 // A function's head, and the words of it that say where its pool starts and how many numbers that has, with which it ends.
-const HEAD: u32 = 14;
+const HEAD: usize = 14;
 
 const POOL: usize = 13;
 
 const NUMBERS: usize = 8;
 
-// What is wrong with a file.
-pub const FINE: u8 = 0;
-
-const BROKEN_WORD: u8 = 1;
-
-const TOO_LONG: u8 = 2;
-
-const EMPTY: u8 = 3;
-
-const CUT_TABLE: u8 = 4;
-
-const TOO_MANY_FUNCTIONS: u8 = 5;
-
-const LONG_TABLE: u8 = 6;
-
-const CUT_HEAD: u8 = 7;
-
-const EARLY_POOL: u8 = 8;
-
-const CUT_FUNCTION: u8 = 9;
-
-// The text for each, and from LONG_TABLE on the text in front of a number and the rest behind it. A semicolon ends each.
-const PROBLEMS: [u8; 372] = *b"\
-    fine;;\
-    the file's length is not a whole number of words;;\
-    the file has more than 262144 words;;\
-    the file is empty;;\
-    the file ends inside the function table;;\
-    the file has more than 256 functions;;\
-    the function table has ; words, and there is room for 4096;\
-    the file ends inside the head of function ;;\
-    the pool of function ; starts inside its head;\
-    the file ends inside function ;;\
-    ";
-
-// How many functions there are, and what is wrong with the one behind them.
+// What is wrong with a file, and the number of the function or of the table's words.
 #[derive(Clone, Copy)]
-pub struct Counted {
-    pub count: usize,
-    pub problem: u8,
+pub enum Problem {
+    BrokenWord,
+    TooLong,
+    Empty,
+    CutTable,
+    TooManyFunctions,
+    LongTable(usize),
+    CutHead(usize),
+    EarlyPool(usize),
+    CutFunction(usize),
 }
 
-pub fn complain(problem: u8, n: usize) {
-    let text = 2 * (problem as usize);
-    io::write_all(STDERR_FILENO, b"agnc: ");
-    opnames::write_name(STDERR_FILENO, &PROBLEMS, text);
-    if LONG_TABLE <= problem {
-        io::print_decimal(STDERR_FILENO, n as u64);
-        opnames::write_name(STDERR_FILENO, &PROBLEMS, text + 1);
+impl fmt::Display for Problem {
+    fn fmt<W: fmt::Write>(&self, f: &mut fmt::Formatter<W>) -> fmt::Result {
+        match self {
+            Problem::BrokenWord => write!(f, "the file's length is not a whole number of words"),
+            Problem::TooLong => write!(f, "the file has more than 262144 words"),
+            Problem::Empty => write!(f, "the file is empty"),
+            Problem::CutTable => write!(f, "the file ends inside the function table"),
+            Problem::TooManyFunctions => write!(f, "the file has more than 256 functions"),
+            Problem::LongTable(n) => write!(
+                f,
+                "the function table has {n} words, and there is room for 4096"
+            ),
+            Problem::CutHead(k) => write!(f, "the file ends inside the head of function {k}"),
+            Problem::EarlyPool(k) => write!(f, "the pool of function {k} starts inside its head"),
+            Problem::CutFunction(k) => write!(f, "the file ends inside function {k}"),
+        }
     }
-    io::write_all(STDERR_FILENO, b"\n");
 }
 
 // What is wrong with a file of so many bytes whose function table should have so many words.
-pub fn problem_of(bytes: usize, ids: usize) -> u8 {
+pub fn sizes_ok(bytes: usize, ids: usize) -> Result<(), Problem> {
     let words = bytes / 4;
     if bytes % 4 != 0 {
-        return BROKEN_WORD;
+        return Err(Problem::BrokenWord);
     }
     if MOST_WORDS < words {
-        return TOO_LONG;
+        return Err(Problem::TooLong);
     }
     if words == 0 {
-        return EMPTY;
+        return Err(Problem::Empty);
     }
     if MOST_IDS < ids {
-        return LONG_TABLE;
+        return Err(Problem::LongTable(ids));
     }
     if words < 1 + 2 * ids {
-        return CUT_TABLE;
+        return Err(Problem::CutTable);
     }
-    FINE
+    Ok(())
 }
 
-// What is wrong with a function that so many words are left for.
-fn problem_at(left: usize, pool: u32, numbers: u32) -> u8 {
-    if left < HEAD as usize {
-        return CUT_HEAD;
+// How many of the words are function k's, which is the first of them.
+fn length_of(ws: &[u32], k: usize) -> Result<u32, Problem> {
+    if ws.len() < HEAD {
+        return Err(Problem::CutHead(k));
     }
-    if pool < HEAD {
-        return EARLY_POOL;
+    let pool = ws[POOL];
+    let numbers = ws[NUMBERS];
+    if (pool as usize) < HEAD {
+        return Err(Problem::EarlyPool(k));
     }
-    if left < pool as usize + numbers as usize {
-        return CUT_FUNCTION;
+    if ws.len() < pool as usize + numbers as usize {
+        return Err(Problem::CutFunction(k));
     }
-    FINE
+    Ok(pool.wrapping_add(numbers))
 }
 
-// Where each function ends. These are the words behind the function table.
-pub fn split(ws: &[u32], ends: &mut [u32]) -> Counted
-    ensures { result.count ≤ length ends.new }
+// Where each function ends, and how many there are. These are the words behind the function table.
+pub fn split(ws: &[u32], ends: &mut [u32]) -> Result<usize, Problem>
+    ensures { IfOk result (λ n. n ≤ length ends.new) }
 {
     let mut at: u32 = 0;
-    let mut k = 0;
-    while (at as usize) < ws.len() {
-        if ends.len() <= k {
-            return Counted {
-                count: k,
-                problem: TOO_MANY_FUNCTIONS,
-            };
-        }
+    for k in 0..ends.len() {
         let start = at as usize;
-        let pool = base::get32(ws, start + POOL);
-        let numbers = base::get32(ws, start + NUMBERS);
-        let problem = problem_at(ws.len() - start, pool, numbers);
-        if problem != FINE {
-            return Counted {
-                count: k,
-                problem: problem,
-            };
+        if ws.len() <= start {
+            return Ok(k);
         }
-        at = wrapping_add_u32(at, wrapping_add_u32(pool, numbers));
-        base::set32(ends, k, at);
-        k += 1;
+        at = at.wrapping_add(length_of(&ws[start..], k)?);
+        ends[k] = at;
     }
-    Counted {
-        count: k,
-        problem: FINE,
+    if (at as usize) < ws.len() {
+        return Err(Problem::TooManyFunctions);
     }
+    Ok(ends.len())
 }
 
-// Is that all of the file, or more than there is room for? A reading that failed is said.
-pub fn is_read(n: usize, file: &mut File, path: &[u8]) -> bool {
+// After so many bytes: the next, if there is room for it. A reading that failed is told from the end.
+pub fn read_on(n: usize, file: &mut File) -> Result<(), Error> {
     let mut byte = [0u8; 1];
-    if MOST_BYTES <= n {
-        return true;
+    if n < MOST_BYTES {
+        file.read(&mut byte)?;
     }
-    match file.read(&mut byte) {
-        Ok(_) => true,
-        Err(error) => {
-            fail(path, &error);
-            false
-        }
-    }
+    Ok(())
 }

@@ -5,7 +5,7 @@ ghost use Rattle.std.specs.Prelude.{◌≡◌};
 ghost use Rattle.place.specs.Registers.{registers};
 ghost use Rattle.judge.specs.Judged.{unfit};
 ghost use Rattle.first_checks.specs.Buffers.{lent};
-ghost use Rattle.compile.specs.Program.{answer_number};
+ghost use Rattle.compile.specs.Program as program;
 ghost use Rattle.strings.specs.Strings.{number_for, index_for, used_for};
 ghost use Rattle.compact.specs.Entry as entries;
 ghost use Rattle.moves_entry.specs.Entry as move_entries;
@@ -16,28 +16,25 @@ ghost use Rattle.agnulfrosc.specs.Library.{leaves, compiled_for, interns, intern
 ghost use Rattle.std.proofs.lemmas.List.Edits.{sets};
 
 use answers::Numbers;
-use compact::Compacted;
-use compile::Compiled;
-use moves_entry::{Columns, Emitted};
-use op::Decoded;
-use strings::Strings;
+use lists::Used;
+use moves_entry::Columns;
+use refusal::Refusal;
+use strings::Unfit;
 
 // The lowest number from 1 to 7 that applies to a function, 0 for none.
 #[unsafe(no_mangle)]
 pub extern "C" fn agnulfrosc_judge(words: &[u32], functions: &[u64]) -> u8
     ensures { result ≡ unfit registers words.now functions.now }
 {
-    judge::number_of(judge::judge(words, functions))
+    refusal::number_for(judge::judge(words, functions))
 }
 
-// The number of a compiled function; its used lengths are stored.
-fn answer_compiled(r: Compiled, used: &mut [u64]) -> u8
-    ensures { (result ≡ answer_number r.answer) × (used.new ≡ sets used.old 0 (used_words r.used)) }
+// The number of a compiled function; the used lengths are stored, those before it where it is refused.
+fn answer_compiled(r: Result<Used, Refusal>, before: Used, used: &mut [u64]) -> u8
+    ensures { (result ≡ program.answer_number r) × (used.new ≡ sets used.old 0 (used_words (program.used_for before r))) }
 {
-    let a = r.answer;
-    let u = r.used;
-    answers::store_used(used, u);
-    compile::number_of(a)
+    answers::store_used(used, r.unwrap_or(before));
+    refusal::number_for(r)
 }
 
 // One function; its number from 0 to 9.
@@ -61,55 +58,28 @@ pub extern "C" fn agnulfrosc_compile(
 ) -> u8
     ensures { leaves result used.new (lent ops.new spans.new globals.new builtins.new functions.new switches.new targets.new lookups.new values.new places.new hints.new noted.new labels.new) ≡ compiled_for registers words.now (lent ops.old spans.old globals.old builtins.old functions.old switches.old targets.old lookups.old values.old places.old hints.old noted.old labels.old) used.old }
 {
+    let before = answers::used_in(used);
     let r = compile::compile(
-        words,
-        functions,
-        ops,
-        spans,
-        globals,
-        builtins,
-        switches,
-        targets,
-        lookups,
-        values,
-        places,
-        hints,
-        noted,
-        labels,
-        answers::used_in(used),
+        words, functions, ops, spans, globals, builtins, switches, targets, lookups, values,
+        places, hints, noted, labels, before,
     );
-    answer_compiled(r, used)
+    answer_compiled(r, before, used)
 }
 
 // A number and an index for each answer of the string entry, and the used length where it stays.
-fn strings_numbers(r: Strings, used: usize) -> Numbers
+fn strings_numbers(r: Result<usize, Unfit>, used: usize) -> Numbers
     ensures { (result.number ≡ number_for r) × (result.used ≡ used_for used r) × (result.index ≡ index_for r) }
 {
     match r {
-        Strings::Done(count) => Numbers {
+        Ok(count) => Numbers {
             number: 0,
             used: count,
             index: 0,
         },
-        Strings::BadWord(k) => Numbers {
-            number: 1,
-            used: used,
-            index: k,
-        },
-        Strings::TooMany(k) => Numbers {
-            number: 2,
-            used: used,
-            index: k,
-        },
-        Strings::BadShape(k) => Numbers {
-            number: 3,
-            used: used,
-            index: k,
-        },
-        Strings::NoRoom => Numbers {
-            number: 9,
-            used: used,
-            index: 0,
+        Err(f) => Numbers {
+            number: f.why.number(),
+            used,
+            index: f.index,
         },
     }
 }
@@ -124,34 +94,19 @@ pub extern "C" fn agnulfrosc_strings(
 ) -> u8
     ensures { interns result answer.new globals.new ≡ interned_for registers words.now ends.now globals.old answer.old }
 {
-    let used = base::get64(answer, 0) as usize;
+    let used = base::get_or(answer, 0, 0) as usize;
     let n = strings_numbers(strings::intern_strings(words, ends, globals, used), used);
     answers::store_both(answer, n);
     n.number
 }
 
-fn compacted_numbers(r: Compacted) -> Numbers
-    ensures { (result.number ≡ entries.number_for r) × (result.used ≡ entries.used_for r) }
-{
-    match r {
-        Compacted::Done(used) => Numbers {
-            number: 0,
-            used: used,
-            index: 0,
-        },
-        Compacted::BadWord => refused(1),
-        Compacted::TooMany => refused(2),
-        Compacted::NoRoom => refused(9),
-        Compacted::BadTarget => refused(11),
-    }
-}
-
-fn refused(number: u8) -> Numbers
-    ensures { (result.number ≡ number) × (result.used ≡ 0) }
+// A number, and the used length of an answer that has one.
+fn numbers_of(r: Result<usize, Refusal>) -> Numbers
+    ensures { (result.number ≡ entries.number_for r) × (result.used ≡ entries.used_for r) × (result.used ≡ move_entries.used_for r) }
 {
     Numbers {
-        number: number,
-        used: 0,
+        number: refusal::number_for(r),
+        used: r.unwrap_or(0),
         index: 0,
     }
 }
@@ -168,12 +123,12 @@ pub extern "C" fn agnulfrosc_compact(
 ) -> u8
     ensures { compacts result used.new ops.new spans.new targets.new functions.new work.new ≡ compacted_for used.old ops.old spans.old targets.old functions.old work.old }
 {
-    let n = compacted_numbers(compact::compact(
+    let n = numbers_of(compact::compact(
         ops,
         spans,
-        base::get64(used, 0) as usize,
+        base::get_or(used, 0, 0) as usize,
         targets,
-        base::get64(used, 1) as usize,
+        base::get_or(used, 1, 0) as usize,
         functions,
         work,
     ));
@@ -181,28 +136,13 @@ pub extern "C" fn agnulfrosc_compact(
     n.number
 }
 
-fn emitted_numbers(r: Emitted) -> Numbers
-    ensures { (result.number ≡ move_entries.answer_number r) × (result.used ≡ move_entries.used_for r) }
-{
-    match r {
-        Emitted::Done(used) => Numbers {
-            number: 0,
-            used: used,
-            index: 0,
-        },
-        Emitted::TooMany => refused(2),
-        Emitted::NoRoom => refused(9),
-        Emitted::BadMove => refused(10),
-    }
-}
-
 fn columns_for(sources: &[u32], destinations: &[u32]) -> Columns
     ensures { result ≡ columns_for sources.now destinations.now }
 {
     let mut src = [0u32; 190];
     let mut dst = [0u32; 190];
-    base::copy32(&mut src, 0, sources);
-    base::copy32(&mut dst, 0, destinations);
+    base::copy(&mut src, 0, sources);
+    base::copy(&mut dst, 0, destinations);
     Columns {
         src: src,
         dst: dst,
@@ -223,10 +163,10 @@ pub extern "C" fn agnulfrosc_moves(
     ensures { moves result used.new ops.new spans.new ≡ moved_for registers sources.now destinations.now span used.old ops.old spans.old }
 {
     let c = columns_for(sources, destinations);
-    let n = emitted_numbers(moves_entry::emit_columns(
+    let n = numbers_of(moves_entry::emit_columns(
         ops,
         spans,
-        base::get64(used, 0) as usize,
+        base::get_or(used, 0, 0) as usize,
         span,
         c,
     ));
@@ -239,8 +179,5 @@ pub extern "C" fn agnulfrosc_moves(
 pub extern "C" fn agnulfrosc_op(word: u64) -> u8
     ensures { result ≡ words.number_for (parts word) }
 {
-    match op::decode(word) {
-        Decoded::Is(_) => 0,
-        Decoded::BadWord => 1,
-    }
+    refusal::number_for(op::decode(word))
 }

@@ -10,6 +10,7 @@ use lib.ListN.{length, get_or, length-append, length-take, length-replicate, get
 use lib.Seq.{length-take-le}
 use lib.Pow.{pow_pos}
 use borrow.Author.Tests.{ltb-true, leb-false, eqb-true, eqb-false}
+use Rattle.std.specs.Prelude.{Option, Some, None}
 use Rattle.base.specs.Choice.{pick}
 use Rattle.base.specs.Masks.{has_bit}
 use Rattle.base.proofs.Masks.{has_none}
@@ -18,17 +19,9 @@ use Rattle.place.specs.declared.Reg.{Reg}
 use Rattle.place.specs.declared.Reg.TheVariants.{Gpr, Fpr}
 use Rattle.place.specs.declared.Place.{Place}
 use Rattle.place.specs.declared.Place.TheVariants.{Slot, Register}
-use Rattle.place.specs.declared.Found.{Found}
-use Rattle.place.specs.declared.Found.TheVariants as found
 use Rattle.place.specs.Places.{class_of, index_of, reg_of, found_of}
 use Rattle.alloc.specs.declared.Entry.{Entry}
 use Rattle.alloc.specs.declared.Alloc.{Alloc}
-use Rattle.alloc.specs.declared.Ready.{Ready}
-use Rattle.alloc.specs.declared.Ready.TheVariants as ready
-use Rattle.alloc.specs.declared.Hint.{Hint}
-use Rattle.alloc.specs.declared.Hint.TheVariants as hint
-use Rattle.alloc.specs.declared.Got.{Got}
-use Rattle.alloc.specs.declared.Got.TheVariants as got
 use Rattle.alloc.specs.declared.Taken.{Taken}
 use Rattle.alloc.specs.State.{most_active, most_slots, live, with_slots, mask_of, fresh_of, empty_entry}
 use Rattle.alloc.specs.Allocation.{kept_of, gone_of, expire_of, is_free, take_reg, last_free, take_slot, from_pool, hinted, take_of, entered, enter, new_place, place_of, place_again, pin_of}
@@ -223,9 +216,9 @@ pending_new s g h =
     }
 
 -- ---- what a taking answers
-abbrev pub PendingFor : Alloc → Got → Type 0
-PendingFor s (got.At p) = Pending p s
-PendingFor s got.NoSlot = Unit
+abbrev pub PendingFor : Alloc → Option Place → Type 0
+PendingFor s (Some p) = Pending p s
+PendingFor s None = Unit
 
 abbrev pub TakenOk : Taken → Type 0
 TakenOk t = PendingFor t.state t.got
@@ -258,10 +251,10 @@ found_free class r s g h =
     absurd (let q : ◌≡◌ {A = ℕ} 0 1 = cc in omega arith))
     (lt? class 2)
 
-pool_ok : (class : ℕ) (f : Ready) (s : Alloc) → Good s → IsIn (get_or s.free class 0) f → TakenOk (from_pool class f s)
+pool_ok : (class : ℕ) (f : Option ℕ) (s : Alloc) → Good s → IsIn (get_or s.free class 0) f → TakenOk (from_pool class f s)
 unfolding from_pool
-pool_ok class (ready.At r) s g h = pending_reg (reg_of class r) s g (found_free class r s g h)
-pool_ok class ready.Nothing s g h = slot_ok s g
+pool_ok class (Some r) s g h = pending_reg (reg_of class r) s g (found_free class r s g h)
+pool_ok class None s g h = slot_ok s g
 
 pub hinted_free : (class : ℕ) (r : Reg) (s : Alloc) → hinted class r s ≡ true → is_free r s ≡ true
 unfolding hinted
@@ -271,49 +264,51 @@ hinted_free class r s e = go (eqb (class_of r) class) (is_free r s) e
     go true b e = e
     go false b e = absurd (let z : ◌≡◌ {A = ℕ} 0 1 = cc in omega arith)
 
-pub take_ok : (class : ℕ) (h : Hint) (pool : List ℕ) (s : Alloc) → Good s → TakenOk (take_of class h pool s)
+pub take_ok : (class : ℕ) (h : Option Reg) (pool : List ℕ) (s : Alloc) → Good s → TakenOk (take_of class h pool s)
 unfolding take_of
-take_ok class hint.Nowhere pool s g =
+take_ok class None pool s g =
     pool_ok class (last_free (get_or s.free class 0) pool) s g (last_in (get_or s.free class 0) pool)
-take_ok class (hint.At r) pool s g =
+take_ok class (Some r) pool s g =
     pick_case TakenOk (hinted class r s) _ _ (λ e. pending_reg r s g (hinted_free class r s e))
     (λ e. pool_ok class (last_free (get_or s.free class 0) pool) s g (last_in (get_or s.free class 0) pool))
 
 -- a place that was found leaves room for its entry
-pub taken_room : (class : ℕ) (h : Hint) (pool : List ℕ) (s : Alloc) (t : Taken) (p : Place) → Good s → t ≡ take_of class h pool s → t.got ≡ got.At p
+pub taken_room : (class : ℕ) (h : Option Reg) (pool : List ℕ) (s : Alloc) (t : Taken) (p : Place) → Good s → t ≡ take_of class h pool s → t.got ≡ Some p
     → t.state.count < most_active
 taken_room class h pool s t p g e q =
     let k : TakenOk t = rw e (take_ok class h pool s g) in
     pending_room (record { end = 0; place = p }) t.state (subst (PendingFor t.state) q k)
 
-good_enter : (end : ℕ) (before s : Alloc) (x : Got) → Good before → PendingFor s x → Good (enter end before s x).state
+good_enter : (end : ℕ) (before s : Alloc) (x : Option Place) → Good before → PendingFor s x → Good (enter end before s x).state
 unfolding enter
-good_enter end before s (got.At p) g r = good_entered (record { end = end; place = p }) s r
-good_enter end before s got.NoSlot g r = g
+good_enter end before s (Some p) g r = good_entered (record { end = end; place = p }) s r
+good_enter end before s None g r = g
 
 -- ---- a placement, at any clock
-pub good_new : (class at end : ℕ) (h : Hint) (pool : List ℕ) (s : Alloc) → Good s → Good (new_place class at end h pool s).state
+pub good_new : (class at end : ℕ) (h : Option Reg) (pool : List ℕ) (s : Alloc) → Good s → Good (new_place class at end h pool s).state
 unfolding new_place
 good_new class at end h pool s g =
     let t : Taken = take_of class h pool (expire_of at s) in
     good_enter end s t.state t.got g (take_ok class h pool (expire_of at s) (good_expire at s g))
 
-good_again : (s : Alloc) (f : Found) (new : Taken) → Good s → Good new.state → Good (place_again s f new).state
-good_again s (found.At p) new g h = g
-good_again s found.Nowhere new g h = h
+good_again : (s : Alloc) (f : Option Place) (new : Taken) → Good s → Good new.state → Good (place_again s f new).state
+good_again s (Some p) new g h = g
+good_again s None new g h = h
 
-pub good_place : (map : List ℕ) (id class at end : ℕ) (h : Hint) (pool : List ℕ) (s : Alloc) → Good s
+pub good_place : (map : List ℕ) (id class at end : ℕ) (h : Option Reg) (pool : List ℕ) (s : Alloc) → Good s
     → Good (place_of map id class at end h pool s).state
 unfolding place_of
 good_place map id class at end h pool s g =
     good_again s (found_of (get_or map id 0)) (new_place class at end h pool s) g (good_new class at end h pool s g)
 
 -- ---- a pin
-pub pin-room : (r : Reg) (s : Alloc) → Good s → is_free r s ≡ true → (take_reg r s).count < most_active
-pin-room r s g f = pending_room (record { end = 0; place = Register r }) (take_reg r s) (pending_reg r s g f)
+pub pin_room : (r : Reg) (s : Alloc) → Good s → is_free r s ≡ true → (take_reg r s).count < most_active
+pin_room r s g f = pending_room (record { end = 0; place = Register r }) (take_reg r s) (pending_reg r s g f)
+
+pub good_pinned : (r : Reg) (end : ℕ) (s : Alloc) → Good s → is_free r s ≡ true
+    → Good (entered (record { end = end; place = Register r }) (take_reg r s))
+good_pinned r end s g f = good_entered (record { end = end; place = Register r }) (take_reg r s) (pending_reg r s g f)
 
 pub good_pin : (r : Reg) (end : ℕ) (s : Alloc) → Good s → Good (pin_of r end s)
 unfolding pin_of
-good_pin r end s g =
-    pick_case Good (is_free r s) _ _
-    (λ f. good_entered (record { end = end; place = Register r }) (take_reg r s) (pending_reg r s g f)) (λ f. g)
+good_pin r end s g = pick_case Good (is_free r s) _ _ (good_pinned r end s g) (λ f. g)

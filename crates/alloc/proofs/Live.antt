@@ -1,14 +1,11 @@
 -- Laws of the registers that active entries hold past a row.
-use mathlib.Core.Path.{◌≡◌, refl, ap, ◌∙◌}
+use mathlib.Core.Path.{◌≡◌, refl, ◌∙◌}
 use mathlib.Core.Logic.{⊎_elim, ◌≢◌}
 use mathlib.Core.Bool.{Bool, true, false}
 use mathlib.Core.List.{List, [], ◌∷◌}
-use Prim.Native.Nat.{ℕ, ◌+◌, ◌≤◌, ◌<◌}
+use Prim.Native.Nat.{ℕ, ◌≤◌, ◌<◌}
 use native.Mathlib.Omega.{arith}
-use native.Mathlib.Numerals.{add-one}
 use lib.Dec.{leb, ltb, eqb}
-use lib.ListN.{length, get_or, drop, length-take, drop_of_length-le}
-use lib.Seq.{drop-cons, get_or-take, length-take-le}
 use borrow.Author.Tests.{leb-false, lt-ltb, eqb-true}
 use Rattle.base.specs.Choice.{pick}
 use Rattle.base.specs.Masks.{has_bit, with_bit}
@@ -20,27 +17,8 @@ use Rattle.place.specs.declared.Place.{Place}
 use Rattle.place.specs.declared.Place.TheVariants.{Slot, Register}
 use Rattle.place.specs.Places.{class_of, index_of}
 use Rattle.alloc.specs.declared.Entry.{Entry}
-use Rattle.alloc.specs.declared.Alloc.{Alloc}
-use Rattle.alloc.specs.State.{live, empty_entry}
 use Rattle.alloc.specs.Allocation.{kept_of, notes, live_after}
 use Rattle.alloc.specs.Good.{bit, same, occurs}
-
--- ---- a turn of the loop, and its end
-pub live-turn : (class row : ℕ) (s : Alloc) (i m : ℕ) → i < s.count → s.count ≤ length s.active
-    → live_after class row (drop i (live s)) m
-    ≡ live_after class row (drop (i + 1) (live s))
-    (pick (ltb row (get_or s.active i empty_entry).end) (notes class (get_or s.active i empty_entry).place m) m)
-unfolding live_after
-live-turn class row s i m l h =
-    let e : drop i (live s) ≡ get_or s.active i empty_entry ∷ drop (i + 1) (live s) =
-    drop-cons (live s) i empty_entry (omega (arith, length-take-le s.count s.active h))
-    ∙ rw (get_or-take s.count s.active i empty_entry l, add-one i) in
-    ap (λ (es : List Entry). live_after class row es m) e
-
-pub live_end : (class row : ℕ) (s : Alloc) (i m : ℕ) → s.count ≤ i → live_after class row (drop i (live s)) m ≡ m
-unfolding live_after
-live_end class row s i m l =
-    rw (drop_of_length-le (live s) {i = i} (omega (arith, length-take s.count s.active)))
 
 -- ---- an active entry in a register that ends after the row has its bit
 with_keeps : (m k j : ℕ) → has_bit m j ≡ true → has_bit (with_bit m k) j ≡ true

@@ -6,22 +6,15 @@ use Prim.Native.Nat.{ℕ, ◌≤◌}
 use native.Mathlib.Omega.{arith}
 use lib.Dec.{leb, ltb}
 use lib.ListN.{get_or, set}
+use Rattle.std.specs.Prelude.{Option, Some, None}
 use Rattle.base.proofs.Numbers.{pick-both}
 use Rattle.place.specs.declared.Reg.{Reg}
 use Rattle.place.specs.declared.Reg.TheVariants.{Gpr, Fpr}
 use Rattle.place.specs.declared.Place.{Place}
 use Rattle.place.specs.declared.Place.TheVariants.{Slot, Register}
-use Rattle.place.specs.declared.Found.{Found}
-use Rattle.place.specs.declared.Found.TheVariants as found
 use Rattle.place.specs.Places.{Fits, found_of, word_of}
 use Rattle.alloc.specs.declared.Entry.{Entry}
 use Rattle.alloc.specs.declared.Alloc.{Alloc}
-use Rattle.alloc.specs.declared.Ready.{Ready}
-use Rattle.alloc.specs.declared.Ready.TheVariants as ready
-use Rattle.alloc.specs.declared.Hint.{Hint}
-use Rattle.alloc.specs.declared.Hint.TheVariants as hint
-use Rattle.alloc.specs.declared.Got.{Got}
-use Rattle.alloc.specs.declared.Got.TheVariants as got
 use Rattle.alloc.specs.declared.Taken.{Taken}
 use Rattle.alloc.specs.State.{most_slots, live}
 use Rattle.alloc.specs.Allocation.{kept_of, expire_of, is_free, take_reg, last_free, take_slot, from_pool, hinted, take_of, took, entered, enter, map_entered, new_place, place_again, map_again, place_of, map_after_place, pin_of, map_after_pin}
@@ -37,77 +30,49 @@ known_fits (Register (Gpr r)) h = omega arith
 known_fits (Register (Fpr r)) h = omega arith
 
 -- ---- an id that has a place, and one that has none
-module _ (map : List ℕ) (id class at end : ℕ) (h : Hint) (pool : List ℕ) (s : Alloc) where
-  pub place-again : (p : Place) → found_of (get_or map id 0) ≡ found.At p → place_of map id class at end h pool s ≡ took s (got.At p)
+module _ (map : List ℕ) (id class at end : ℕ) (h : Option Reg) (pool : List ℕ) (s : Alloc) where
+  pub place-again : (p : Place) → found_of (get_or map id 0) ≡ Some p → place_of map id class at end h pool s ≡ took s (Some p)
   unfolding place_of
   place-again p e = rw e
 
-  pub map-again : (p : Place) → found_of (get_or map id 0) ≡ found.At p → map_after_place map id class at h pool s ≡ map
+  pub map-again : (p : Place) → found_of (get_or map id 0) ≡ Some p → map_after_place map id class at h pool s ≡ map
   unfolding map_after_place
   map-again p e = rw e
 
-  pub place_none : found_of (get_or map id 0) ≡ found.Nowhere → place_of map id class at end h pool s ≡ new_place class at end h pool s
+  pub place_none : found_of (get_or map id 0) ≡ None → place_of map id class at end h pool s ≡ new_place class at end h pool s
   unfolding place_of
   place_none e = rw e
 
-enter_got : (end : ℕ) (before s : Alloc) (x : Got) → (enter end before s x).got ≡ x
+enter_got : (end : ℕ) (before s : Alloc) (x : Option Place) → (enter end before s x).got ≡ x
 unfolding enter
-enter_got end before s (got.At p) = refl
-enter_got end before s got.NoSlot = refl
+enter_got end before s (Some p) = refl
+enter_got end before s None = refl
 
-pub new_got : (class at end : ℕ) (h : Hint) (pool : List ℕ) (s : Alloc) → (new_place class at end h pool s).got ≡ (take_of class h pool (expire_of at s)).got
+pub new_got : (class at end : ℕ) (h : Option Reg) (pool : List ℕ) (s : Alloc) → (new_place class at end h pool s).got ≡ (take_of class h pool (expire_of at s)).got
 unfolding new_place
 new_got class at end h pool s = let t : Taken = take_of class h pool (expire_of at s) in enter_got end s t.state t.got
 
-pub map_none : (map : List ℕ) (id class at end : ℕ) (h : Hint) (pool : List ℕ) (s : Alloc) → found_of (get_or map id 0) ≡ found.Nowhere
+pub map_none : (map : List ℕ) (id class at end : ℕ) (h : Option Reg) (pool : List ℕ) (s : Alloc) → found_of (get_or map id 0) ≡ None
     → map_after_place map id class at h pool s ≡ map_entered map id (new_place class at end h pool s).got
 unfolding map_after_place
 map_none map id class at end h pool s e = rw e (ap (map_entered map id) (sym (new_got class at end h pool s)))
 
 -- where there is no place the map stays
-full_again : (map : List ℕ) (s : Alloc) (f : Found) (new : Taken) (after : List ℕ) → (place_again s f new).got ≡ got.NoSlot → (new.got ≡ got.NoSlot → after ≡ map)
+full_again : (map : List ℕ) (s : Alloc) (f : Option Place) (new : Taken) (after : List ℕ) → (place_again s f new).got ≡ None → (new.got ≡ None → after ≡ map)
     → map_again map f after ≡ map
-full_again map s (found.At p) new after e h = refl
-full_again map s found.Nowhere new after e h = h e
+full_again map s (Some p) new after e h = refl
+full_again map s None new after e h = h e
 
-full_entered : (map : List ℕ) (id : ℕ) (x : Got) → x ≡ got.NoSlot → map_entered map id x ≡ map
+full_entered : (map : List ℕ) (id : ℕ) (x : Option Place) → x ≡ None → map_entered map id x ≡ map
 unfolding map_entered
 full_entered map id x e = rw e
 
-pub map_full : (map : List ℕ) (id class at end : ℕ) (h : Hint) (pool : List ℕ) (s : Alloc) → (place_of map id class at end h pool s).got ≡ got.NoSlot
+pub map_full : (map : List ℕ) (id class at end : ℕ) (h : Option Reg) (pool : List ℕ) (s : Alloc) → (place_of map id class at end h pool s).got ≡ None
     → map_after_place map id class at h pool s ≡ map
 unfolding place_of map_after_place
 map_full map id class at end h pool s e =
     full_again map s (found_of (get_or map id 0)) (new_place class at end h pool s) _ e
     (λ q. full_entered map id (take_of class h pool (expire_of at s)).got (sym (new_got class at end h pool s) ∙ q))
-
--- ---- the code's way to a new place: expire, take, then enter what was got
-module _ (map : List ℕ) (id class at end : ℕ) (h : Hint) (pool : List ℕ) (s x : Alloc) (t : Taken) (ex : x ≡ expire_of at s) (et : t ≡ take_of class h pool x) where
-  taken : t ≡ take_of class h pool (expire_of at s)
-  taken = et ∙ ap (take_of class h pool) ex
-
-  pub new_at : (p : Place) (last : Alloc) (w : ℕ) (m : List ℕ) → t.got ≡ got.At p → last ≡ entered (record { end = end; place = p }) t.state
-      → w ≡ word_of (found.At p) → m ≡ set map id w
-      → (took last (got.At p) ≡ new_place class at end h pool s) × (m ≡ map_entered map id (take_of class h pool (expire_of at s)).got)
-  unfolding new_place enter map_entered
-  new_at p last w m g e q k = (rw (← taken, g, e), rw (← taken, g, k, q))
-
-  pub new_none : t.got ≡ got.NoSlot → (took s got.NoSlot ≡ new_place class at end h pool s) × (map ≡ map_entered map id (take_of class h pool (expire_of at s)).got)
-  unfolding new_place enter map_entered
-  new_none g = (rw (← taken, g), rw (← taken, g))
-
--- the code's way to a place: what the map's word says, else a new one
-module _ (map : List ℕ) (id class at end : ℕ) (h : Hint) (pool : List ℕ) (s : Alloc) (f : Found) (w : ℕ) (ef : f ≡ found_of w) (ew : w ≡ get_or map id 0) where
-  pub place_at_lem : (p : Place) → f ≡ found.At p
-      → (took s (got.At p) ≡ place_of map id class at end h pool s) × (map ≡ map_after_place map id class at h pool s)
-  unfolding place_of map_after_place
-  place_at_lem p e = (rw (← ew, ← ef, e), rw (← ew, ← ef, e))
-
-  pub place-new : f ≡ found.Nowhere → (t : Taken) (m : List ℕ)
-      → (t ≡ new_place class at end h pool s) × (m ≡ map_entered map id (take_of class h pool (expire_of at s)).got)
-      → (t ≡ place_of map id class at end h pool s) × (m ≡ map_after_place map id class at h pool s)
-  unfolding place_of map_after_place
-  place-new e t m q = (rw (← ew, ← ef, e) q.0, rw (← ew, ← ef, e) q.1)
 
 -- ---- one entry more
 abbrev pub entry : ℕ → Place → Entry
@@ -164,30 +129,30 @@ reg-live : (r : Reg) (s : Alloc) → live (take_reg r s) ≡ live s
 unfolding take_reg
 reg-live r s = refl
 
-pool-live : (class : ℕ) (f : Ready) (s : Alloc) → live (from_pool class f s).state ≡ live s
+pool-live : (class : ℕ) (f : Option ℕ) (s : Alloc) → live (from_pool class f s).state ≡ live s
 unfolding from_pool
-pool-live class (ready.At r) s = reg-live _ s
-pool-live class ready.Nothing s = slot-live s
+pool-live class (Some r) s = reg-live _ s
+pool-live class None s = slot-live s
 
-pub take-live : (class : ℕ) (h : Hint) (pool : List ℕ) (s : Alloc) → live (take_of class h pool s).state ≡ live s
+pub take-live : (class : ℕ) (h : Option Reg) (pool : List ℕ) (s : Alloc) → live (take_of class h pool s).state ≡ live s
 unfolding take_of
-take-live class hint.Nowhere pool s = pool-live class (last_free (get_or s.free class 0) pool) s
-take-live class (hint.At r) pool s =
+take-live class None pool s = pool-live class (last_free (get_or s.free class 0) pool) s
+take-live class (Some r) pool s =
     pick-both (λ (t : Taken). live t.state ≡ live s) (hinted class r s) _ _ (reg-live r s)
     (pool-live class (last_free (get_or s.free class 0) pool) s)
 
 -- ---- a placement of an id that has no place: one entry more, or nothing changes
-abbrev pub Outcome : ℕ → ℕ → Alloc → Alloc → Got → Type 0
-Outcome at end s s' (got.At p) = Entered at end p s s'
-Outcome at end s s' got.NoSlot = s' ≡ s
+abbrev pub Outcome : ℕ → ℕ → Alloc → Alloc → Option Place → Type 0
+Outcome at end s s' (Some p) = Entered at end p s s'
+Outcome at end s s' None = s' ≡ s
 
-enter-outcome : (at end : ℕ) (s t : Alloc) (x : Got) → PendingFor t x → live t ≡ kept_of at (live s)
+enter-outcome : (at end : ℕ) (s t : Alloc) (x : Option Place) → PendingFor t x → live t ≡ kept_of at (live s)
     → Outcome at end s (enter end s t x).state (enter end s t x).got
 unfolding enter
-enter-outcome at end s t (got.At p) r l = entered_expired at end p s t r l
-enter-outcome at end s t got.NoSlot r l = refl
+enter-outcome at end s t (Some p) r l = entered_expired at end p s t r l
+enter-outcome at end s t None r l = refl
 
-pub place-outcome : (class at end : ℕ) (h : Hint) (pool : List ℕ) (s : Alloc) → Good s
+pub place-outcome : (class at end : ℕ) (h : Option Reg) (pool : List ℕ) (s : Alloc) → Good s
     → Outcome at end s (new_place class at end h pool s).state (new_place class at end h pool s).got
 unfolding new_place
 place-outcome class at end h pool s g =
@@ -206,7 +171,7 @@ pub pin-not : (r : Reg) (end : ℕ) (s : Alloc) → is_free r s ≡ false → pi
 unfolding pin_of
 pin-not r end s f = rw f
 
-pub pin-map : (map : List ℕ) (id : ℕ) (r : Reg) (s : Alloc) → is_free r s ≡ true → map_after_pin map id r s ≡ set map id (word_of (found.At (Register r)))
+pub pin-map : (map : List ℕ) (id : ℕ) (r : Reg) (s : Alloc) → is_free r s ≡ true → map_after_pin map id r s ≡ set map id (word_of (Some (Register r)))
 unfolding map_after_pin
 pin-map map id r s f = rw f
 

@@ -6,20 +6,14 @@ use Prim.Native.Nat.{ℕ, ◌+◌, ◌-◌, ◌≤◌}
 use native.Mathlib.Omega.{arith}
 use lib.Dec.{leb, ltb}
 use lib.ListN.{get_or}
+use Rattle.std.specs.Prelude.{Option, Some, None}
 use Rattle.base.proofs.Numbers.{pick-both, pick_case}
+use Rattle.place.specs.declared.Place.{Place}
 use Rattle.place.specs.declared.Reg.{Reg}
 use Rattle.place.specs.declared.Place.TheVariants.{Register}
-use Rattle.place.specs.declared.Found.{Found}
-use Rattle.place.specs.declared.Found.TheVariants as found
 use Rattle.place.specs.Places.{reg_of, found_of}
 use Rattle.alloc.specs.declared.Entry.{Entry}
 use Rattle.alloc.specs.declared.Alloc.{Alloc}
-use Rattle.alloc.specs.declared.Ready.{Ready}
-use Rattle.alloc.specs.declared.Ready.TheVariants as ready
-use Rattle.alloc.specs.declared.Hint.{Hint}
-use Rattle.alloc.specs.declared.Hint.TheVariants as hint
-use Rattle.alloc.specs.declared.Got.{Got}
-use Rattle.alloc.specs.declared.Got.TheVariants as got
 use Rattle.alloc.specs.declared.Taken.{Taken}
 use Rattle.alloc.specs.State.{most_slots, live, with_slots}
 use Rattle.alloc.specs.Allocation.{expire_of, is_free, take_reg, last_free, take_slot, from_pool, hinted, take_of, enter, new_place, place_of, place_again, pin_of}
@@ -33,9 +27,9 @@ module _ (q : Reg) where
   abbrev held : Alloc → ℕ
   held s = times (Register q) s
 
-  abbrev same_got : Got → ℕ
-  same_got (got.At p) = same (Register q) p
-  same_got got.NoSlot = 0
+  abbrev same_got : Option Place → ℕ
+  same_got (Some p) = same (Register q) p
+  same_got None = 0
 
   abbrev held_in : Taken → ℕ
   held_in t = held t.state + same_got t.got
@@ -61,27 +55,27 @@ module _ (q : Reg) where
   reg_regs : (r : Reg) (s : Alloc) → Good s → is_free r s ≡ true → held (take_reg r s) + same (Register q) (Register r) ≤ held s
   reg_regs r s g f = rw live_same (omega (arith, take_free (Register q) r s g.shape f))
 
-  pool_regs : (class : ℕ) (f : Ready) (s : Alloc) → Good s → IsIn (get_or s.free class 0) f → held_in (from_pool class f s) ≤ held s
+  pool_regs : (class : ℕ) (f : Option ℕ) (s : Alloc) → Good s → IsIn (get_or s.free class 0) f → held_in (from_pool class f s) ≤ held s
   unfolding from_pool
-  pool_regs class (ready.At r) s g h = reg_regs (reg_of class r) s g (found_free class r s g h)
-  pool_regs class ready.Nothing s g h = slot_regs s
+  pool_regs class (Some r) s g h = reg_regs (reg_of class r) s g (found_free class r s g h)
+  pool_regs class None s g h = slot_regs s
 
-  take_regs : (class : ℕ) (h : Hint) (pool : List ℕ) (s : Alloc) → Good s → held_in (take_of class h pool s) ≤ held s
+  take_regs : (class : ℕ) (h : Option Reg) (pool : List ℕ) (s : Alloc) → Good s → held_in (take_of class h pool s) ≤ held s
   unfolding take_of
-  take_regs class hint.Nowhere pool s g =
+  take_regs class None pool s g =
       pool_regs class (last_free (get_or s.free class 0) pool) s g (last_in (get_or s.free class 0) pool)
-  take_regs class (hint.At r) pool s g =
+  take_regs class (Some r) pool s g =
       pick_case (λ (t : Taken). held_in t ≤ held s) (hinted class r s) _ _ (λ e. reg_regs r s g (hinted_free class r s e))
       (λ e. pool_regs class (last_free (get_or s.free class 0) pool) s g (last_in (get_or s.free class 0) pool))
 
-  enter_regs : (end : ℕ) (before s : Alloc) (x : Got) (n : ℕ) → PendingFor s x → held before ≤ n → held s + same_got x ≤ n → held (enter end before s x).state ≤ n
+  enter_regs : (end : ℕ) (before s : Alloc) (x : Option Place) (n : ℕ) → PendingFor s x → held before ≤ n → held s + same_got x ≤ n → held (enter end before s x).state ≤ n
   unfolding enter
-  enter_regs end before s (got.At p) n r b h =
+  enter_regs end before s (Some p) n r b h =
       let e : Entry = record { end = end; place = p } in
       omega (arith, entered-times (Register q) e s (omega (arith, pending_room e s r, r.shape.actives)))
-  enter_regs end before s got.NoSlot n r b h = b
+  enter_regs end before s None n r b h = b
 
-  pub regs_new : (class at end : ℕ) (h : Hint) (pool : List ℕ) (s : Alloc) → Good s → held (new_place class at end h pool s).state ≤ held s
+  pub regs_new : (class at end : ℕ) (h : Option Reg) (pool : List ℕ) (s : Alloc) → Good s → held (new_place class at end h pool s).state ≤ held s
   unfolding new_place
   regs_new class at end h pool s g =
       let x : Alloc = expire_of at s in
@@ -90,11 +84,11 @@ module _ (q : Reg) where
       enter_regs end s t.state t.got (held s) (take_ok class h pool x gx) (omega arith)
       (omega (arith, take_regs class h pool x gx, regs_expire at s g))
 
-  again_regs : (s : Alloc) (f : Found) (new : Taken) → held new.state ≤ held s → held (place_again s f new).state ≤ held s
-  again_regs s (found.At p) new h = omega arith
-  again_regs s found.Nowhere new h = h
+  again_regs : (s : Alloc) (f : Option Place) (new : Taken) → held new.state ≤ held s → held (place_again s f new).state ≤ held s
+  again_regs s (Some p) new h = omega arith
+  again_regs s None new h = h
 
-  pub regs_place : (map : List ℕ) (id class at end : ℕ) (h : Hint) (pool : List ℕ) (s : Alloc) → Good s
+  pub regs_place : (map : List ℕ) (id class at end : ℕ) (h : Option Reg) (pool : List ℕ) (s : Alloc) → Good s
       → held (place_of map id class at end h pool s).state ≤ held s
   unfolding place_of
   regs_place map id class at end h pool s g =

@@ -7,23 +7,17 @@ use native.Mathlib.Omega.{arith}
 use lib.Dec.{leb, ltb, eqb}
 use lib.ListN.{length, get_or}
 use borrow.Author.Tests.{ltb-true, ltb-false, leb-true, eqb-true, eq-eqb, le-ltb, le-leb}
+use Rattle.std.specs.Prelude.{Option, Some, None}
 use Rattle.base.specs.Choice.{pick}
 use Rattle.base.specs.Lists.{among}
 use Rattle.base.specs.Masks.{has_bit}
 use Rattle.base.proofs.Numbers.{pick-both, pick_case}
+use Rattle.place.specs.declared.Place.{Place}
 use Rattle.place.specs.declared.Reg.{Reg}
 use Rattle.place.specs.declared.Place.TheVariants.{Register}
-use Rattle.place.specs.declared.Found.{Found}
-use Rattle.place.specs.declared.Found.TheVariants as found
 use Rattle.place.specs.Places.{found_of}
 use Rattle.alloc.specs.declared.Entry.{Entry}
 use Rattle.alloc.specs.declared.Alloc.{Alloc}
-use Rattle.alloc.specs.declared.Ready.{Ready}
-use Rattle.alloc.specs.declared.Ready.TheVariants as ready
-use Rattle.alloc.specs.declared.Hint.{Hint}
-use Rattle.alloc.specs.declared.Hint.TheVariants as hint
-use Rattle.alloc.specs.declared.Got.{Got}
-use Rattle.alloc.specs.declared.Got.TheVariants as got
 use Rattle.alloc.specs.declared.Taken.{Taken}
 use Rattle.alloc.specs.State.{most_slots, live, fresh_of}
 use Rattle.alloc.specs.Allocation.{kept_of, gone_of, expire_of, is_free, take_reg, last_free, or_else, take_slot, from_pool, hinted, take_of, entered, enter, new_place, place_of, place_again, pin_of}
@@ -38,9 +32,9 @@ abbrev pub NoneLost : Alloc → Type 0
 NoneLost s = s.spares + slots_in (live s) ≡ s.made
 
 -- the same where a place was taken, and not entered yet
-abbrev NoneLostFor : Alloc → Got → Type 0
-NoneLostFor s (got.At p) = is_slot p + (s.spares + slots_in (live s)) ≡ s.made
-NoneLostFor s got.NoSlot = Unit
+abbrev NoneLostFor : Alloc → Option Place → Type 0
+NoneLostFor s (Some p) = is_slot p + (s.spares + slots_in (live s)) ≡ s.made
+NoneLostFor s None = Unit
 
 abbrev NoneLostIn : Taken → Type 0
 NoneLostIn t = NoneLostFor t.state t.got
@@ -72,19 +66,19 @@ lost_slot s h =
     pick_case NoneLostIn (ltb 0 s.spares) _ _ (λ e. omega (arith, ltb-true 0 s.spares e))
     (λ e. pick-both NoneLostIn (leb most_slots s.made) _ _ tt (omega arith))
 
-lost_reg : (r : Reg) (s : Alloc) → NoneLost s → NoneLostFor (take_reg r s) (got.At (Register r))
+lost_reg : (r : Reg) (s : Alloc) → NoneLost s → NoneLostFor (take_reg r s) (Some (Register r))
 unfolding take_reg
 lost_reg r s h = omega arith
 
-lost_pool : (class : ℕ) (f : Ready) (s : Alloc) → NoneLost s → NoneLostIn (from_pool class f s)
+lost_pool : (class : ℕ) (f : Option ℕ) (s : Alloc) → NoneLost s → NoneLostIn (from_pool class f s)
 unfolding from_pool
-lost_pool class (ready.At r) s h = lost_reg _ s h
-lost_pool class ready.Nothing s h = lost_slot s h
+lost_pool class (Some r) s h = lost_reg _ s h
+lost_pool class None s h = lost_slot s h
 
-lost_take : (class : ℕ) (h : Hint) (pool : List ℕ) (s : Alloc) → NoneLost s → NoneLostIn (take_of class h pool s)
+lost_take : (class : ℕ) (h : Option Reg) (pool : List ℕ) (s : Alloc) → NoneLost s → NoneLostIn (take_of class h pool s)
 unfolding take_of
-lost_take class hint.Nowhere pool s n = lost_pool class (last_free (get_or s.free class 0) pool) s n
-lost_take class (hint.At r) pool s n =
+lost_take class None pool s n = lost_pool class (last_free (get_or s.free class 0) pool) s n
+lost_take class (Some r) pool s n =
     pick-both NoneLostIn (hinted class r s) _ _ (lost_reg r s n)
     (lost_pool class (last_free (get_or s.free class 0) pool) s n)
 
@@ -96,14 +90,14 @@ one_slot e = omega arith
 lost_entered : (e : Entry) (s : Alloc) → s.count < length s.active → is_slot e.place + (s.spares + slots_in (live s)) ≡ s.made → NoneLost (entered e s)
 lost_entered e s l h = rw (live-entered e s l) (omega (arith, slots_append (live s) (e ∷ []), one_slot e))
 
-lost_enter : (end : ℕ) (before s : Alloc) (x : Got) → PendingFor s x → NoneLost before → NoneLostFor s x → NoneLost (enter end before s x).state
+lost_enter : (end : ℕ) (before s : Alloc) (x : Option Place) → PendingFor s x → NoneLost before → NoneLostFor s x → NoneLost (enter end before s x).state
 unfolding enter
-lost_enter end before s (got.At p) r n h =
+lost_enter end before s (Some p) r n h =
     let e : Entry = record { end = end; place = p } in
     lost_entered e s (omega (arith, pending_room e s r, r.shape.actives)) h
-lost_enter end before s got.NoSlot r n h = n
+lost_enter end before s None r n h = n
 
-pub lost_new : (class at end : ℕ) (h : Hint) (pool : List ℕ) (s : Alloc) → Good s → NoneLost s → NoneLost (new_place class at end h pool s).state
+pub lost_new : (class at end : ℕ) (h : Option Reg) (pool : List ℕ) (s : Alloc) → Good s → NoneLost s → NoneLost (new_place class at end h pool s).state
 unfolding new_place
 lost_new class at end h pool s g n =
     let x : Alloc = expire_of at s in
@@ -111,11 +105,11 @@ lost_new class at end h pool s g n =
     lost_enter end s t.state t.got (take_ok class h pool x (good_expire at s g)) n
     (lost_take class h pool x (lost_expire at s n))
 
-lost_again : (s : Alloc) (f : Found) (new : Taken) → NoneLost s → NoneLost new.state → NoneLost (place_again s f new).state
-lost_again s (found.At p) new n k = n
-lost_again s found.Nowhere new n k = k
+lost_again : (s : Alloc) (f : Option Place) (new : Taken) → NoneLost s → NoneLost new.state → NoneLost (place_again s f new).state
+lost_again s (Some p) new n k = n
+lost_again s None new n k = k
 
-pub lost_place : (map : List ℕ) (id class at end : ℕ) (h : Hint) (pool : List ℕ) (s : Alloc) → Good s → NoneLost s
+pub lost_place : (map : List ℕ) (id class at end : ℕ) (h : Option Reg) (pool : List ℕ) (s : Alloc) → Good s → NoneLost s
     → NoneLost (place_of map id class at end h pool s).state
 unfolding place_of
 lost_place map id class at end h pool s g n =
@@ -136,18 +130,18 @@ lost_pin r end s g n =
 abbrev pub NoneFree : ℕ → List ℕ → Type 0
 NoneFree m pool = (r : ℕ) → among r pool ≡ true → has_bit m r ≡ false
 
-abbrev None : ℕ → List ℕ → Ready → Type 0
-None m pool (ready.At r) = Unit
-None m pool ready.Nothing = NoneFree m pool
+abbrev NoneFor : ℕ → List ℕ → Option ℕ → Type 0
+NoneFor m pool (Some r) = Unit
+NoneFor m pool None = NoneFree m pool
 
-none_case : (m x : ℕ) (xs : List ℕ) (f : Ready) (b : Bool) → has_bit m x ≡ b → None m xs f → None m (x ∷ xs) (or_else f (pick b (ready.At x) ready.Nothing))
-none_case m x xs (ready.At r) b e h = tt
-none_case m x xs ready.Nothing true e h = tt
-none_case m x xs ready.Nothing false e h = λ r a.
+none_case : (m x : ℕ) (xs : List ℕ) (f : Option ℕ) (b : Bool) → has_bit m x ≡ b → NoneFor m xs f → NoneFor m (x ∷ xs) (or_else f (pick b (Some x) None))
+none_case m x xs (Some r) b e h = tt
+none_case m x xs None true e h = tt
+none_case m x xs None false e h = λ r a.
     pick_case (λ (t : Bool). t ≡ true → has_bit m r ≡ false) (eqb r x) true (among r xs)
     (λ q _. let z : r ≡ x = eqb-true r x q in rw z e) (λ q k. h r k) a
 
-none_free : (m : ℕ) (xs : List ℕ) → None m xs (last_free m xs)
+none_free : (m : ℕ) (xs : List ℕ) → NoneFor m xs (last_free m xs)
 unfolding last_free
 none_free m [] = λ r a. absurd (let z : ◌≡◌ {A = ℕ} 0 1 = cc in omega arith)
 none_free m (x ∷ xs) = none_case m x xs (last_free m xs) (has_bit m x) refl (none_free m xs)
@@ -158,9 +152,9 @@ pub record Nothing (class : ℕ) (pool : List ℕ) (s : Alloc) : Type 0 where
   pub all_made : most_slots ≤ s.made
   pub no_reg : NoneFree (get_or s.free class 0) pool
 
-abbrev NothingFor : ℕ → List ℕ → Alloc → Got → Type 0
-NothingFor class pool s (got.At p) = Unit
-NothingFor class pool s got.NoSlot = Nothing class pool s
+abbrev NothingFor : ℕ → List ℕ → Alloc → Option Place → Type 0
+NothingFor class pool s (Some p) = Unit
+NothingFor class pool s None = Nothing class pool s
 
 nothing-slot : (class : ℕ) (pool : List ℕ) (s : Alloc) → NoneFree (get_or s.free class 0) pool → NothingFor class pool s (take_slot s).got
 unfolding take_slot
@@ -171,16 +165,16 @@ nothing-slot class pool s h =
     (λ f. record { no_free = omega (arith, ltb-false 0 s.spares e); all_made = leb-true most_slots s.made f; no_reg = h })
     (λ f. tt))
 
-nothing-pool : (class : ℕ) (pool : List ℕ) (f : Ready) (s : Alloc) → None (get_or s.free class 0) pool f → NothingFor class pool s (from_pool class f s).got
+nothing-pool : (class : ℕ) (pool : List ℕ) (f : Option ℕ) (s : Alloc) → NoneFor (get_or s.free class 0) pool f → NothingFor class pool s (from_pool class f s).got
 unfolding from_pool
-nothing-pool class pool (ready.At r) s h = tt
-nothing-pool class pool ready.Nothing s h = nothing-slot class pool s h
+nothing-pool class pool (Some r) s h = tt
+nothing-pool class pool None s h = nothing-slot class pool s h
 
-nothing-take : (class : ℕ) (h : Hint) (pool : List ℕ) (s : Alloc) → NothingFor class pool s (take_of class h pool s).got
+nothing-take : (class : ℕ) (h : Option Reg) (pool : List ℕ) (s : Alloc) → NothingFor class pool s (take_of class h pool s).got
 unfolding take_of
-nothing-take class hint.Nowhere pool s =
+nothing-take class None pool s =
     nothing-pool class pool (last_free (get_or s.free class 0) pool) s (none_free (get_or s.free class 0) pool)
-nothing-take class (hint.At r) pool s =
+nothing-take class (Some r) pool s =
     pick-both (λ (t : Taken). NothingFor class pool s t.got) (hinted class r s) _ _ tt
     (nothing-pool class pool (last_free (get_or s.free class 0) pool) s (none_free (get_or s.free class 0) pool))
 
@@ -189,7 +183,7 @@ pub record Full (class at : ℕ) (pool : List ℕ) (s : Alloc) : Type 0 where
   pub no_reg : NoneFree (get_or (expire_of at s).free class 0) pool
   pub all_held : slots_in (kept_of at (live s)) ≡ most_slots
 
-pub no_slot : (class at end : ℕ) (h : Hint) (pool : List ℕ) (s : Alloc) → Good s → NoneLost s → (new_place class at end h pool s).got ≡ got.NoSlot
+pub no_slot : (class at end : ℕ) (h : Option Reg) (pool : List ℕ) (s : Alloc) → Good s → NoneLost s → (new_place class at end h pool s).got ≡ None
     → Full class at pool s
 no_slot class at end h pool s g n e =
     let x : Alloc = expire_of at s in
@@ -201,33 +195,33 @@ no_slot class at end h pool s g n e =
     }
 
 -- ---- and then
-last_none : (m : ℕ) (xs : List ℕ) → NoneFree m xs → last_free m xs ≡ ready.Nothing
+last_none : (m : ℕ) (xs : List ℕ) → NoneFree m xs → last_free m xs ≡ None
 unfolding last_free
 last_none m [] h = refl
 last_none m (x ∷ xs) h =
     rw (last_none m xs (λ r a. h r (pick-both (λ (t : Bool). t ≡ true) (eqb r x) true (among r xs) refl a)), h x (rw (eq-eqb x x refl)))
 
-slot_none : (s : Alloc) → s.spares ≡ 0 → most_slots ≤ s.made → (take_slot s).got ≡ got.NoSlot
+slot_none : (s : Alloc) → s.spares ≡ 0 → most_slots ≤ s.made → (take_slot s).got ≡ None
 unfolding take_slot
 slot_none s z m = rw (le-ltb 0 s.spares (omega arith), le-leb most_slots s.made m)
 
-pool_none : (class : ℕ) (f : Ready) (s : Alloc) → f ≡ ready.Nothing → s.spares ≡ 0 → most_slots ≤ s.made → (from_pool class f s).got ≡ got.NoSlot
+pool_none : (class : ℕ) (f : Option ℕ) (s : Alloc) → f ≡ None → s.spares ≡ 0 → most_slots ≤ s.made → (from_pool class f s).got ≡ None
 unfolding from_pool
 pool_none class f s e z m = rw e (slot_none s z m)
 
 -- the hint is none of the class that is free
-abbrev pub NoHint : ℕ → Hint → Alloc → Type 0
-NoHint class hint.Nowhere s = Unit
-NoHint class (hint.At r) s = hinted class r s ≡ false
+abbrev pub NoHint : ℕ → Option Reg → Alloc → Type 0
+NoHint class None s = Unit
+NoHint class (Some r) s = hinted class r s ≡ false
 
-take_none : (class : ℕ) (h : Hint) (pool : List ℕ) (s : Alloc) → NoHint class h s → NoneFree (get_or s.free class 0) pool → s.spares ≡ 0 → most_slots ≤ s.made
-    → (take_of class h pool s).got ≡ got.NoSlot
+take_none : (class : ℕ) (h : Option Reg) (pool : List ℕ) (s : Alloc) → NoHint class h s → NoneFree (get_or s.free class 0) pool → s.spares ≡ 0 → most_slots ≤ s.made
+    → (take_of class h pool s).got ≡ None
 unfolding take_of
-take_none class hint.Nowhere pool s q f z m = pool_none class _ s (last_none (get_or s.free class 0) pool f) z m
-take_none class (hint.At r) pool s q f z m = rw q (pool_none class _ s (last_none (get_or s.free class 0) pool f) z m)
+take_none class None pool s q f z m = pool_none class _ s (last_none (get_or s.free class 0) pool f) z m
+take_none class (Some r) pool s q f z m = rw q (pool_none class _ s (last_none (get_or s.free class 0) pool f) z m)
 
-pub full_none : (class at end : ℕ) (h : Hint) (pool : List ℕ) (s : Alloc) → Good s → NoneLost s → Full class at pool s → NoHint class h (expire_of at s)
-    → (new_place class at end h pool s).got ≡ got.NoSlot
+pub full_none : (class at end : ℕ) (h : Option Reg) (pool : List ℕ) (s : Alloc) → Good s → NoneLost s → Full class at pool s → NoHint class h (expire_of at s)
+    → (new_place class at end h pool s).got ≡ None
 full_none class at end h pool s g n f q =
     let m : (expire_of at s).made ≡ s.made = expire_made at s in
     let k : (expire_of at s).spares + slots_in (kept_of at (live s)) ≡ (expire_of at s).made = rw live-expire at (lost_expire at s n) in

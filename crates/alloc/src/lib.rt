@@ -6,10 +6,10 @@ ghost use Rattle.alloc.specs.State.{most_active, most_slots, live, mask_of, fres
 ghost use Rattle.alloc.specs.Allocation.{free_reg, free_slot, release, expire_of, is_free, take_reg, last_free, take_slot, from_pool, hinted, take_of, entered, new_place, map_entered, place_of, map_after_place, pin_of, map_after_pin, notes, live_after};
 ghost use Rattle.alloc.specs.Good.{Good, Releasable};
 
-use place::{Found, Place, Reg};
+use place::{Place, Reg};
 
 // Who holds a place, and until when.
-#[derive(Clone, Copy)]
+#[derive(Clone, Copy, Debug, PartialEq, Eq)]
 pub struct Entry {
     pub end: u32,
     pub place: Place,
@@ -26,58 +26,34 @@ pub struct Alloc {
     pub made: u16,
 }
 
-#[derive(Clone, Copy)]
-pub enum Hint {
-    Nowhere,
-    At(Reg),
-}
-
-// What taking a place gives.
-#[derive(Clone, Copy)]
-pub enum Got {
-    At(Place),
-    NoSlot,
-}
-
-// A register of the pool that is free, if there is one.
-#[derive(Clone, Copy)]
-pub enum Ready {
-    At(u8),
-    Nothing,
-}
-
+// What taking a place gives: none where every register and every slot is held.
 #[derive(Clone, Copy)]
 pub struct Taken {
     pub state: Alloc,
-    pub got: Got,
+    pub got: Option<Place>,
 }
 
 // The last register of the pool that is in the mask.
-fn last_free(m: u64, pool: &[u8]) -> Ready
+#[tactic(auto, using(crate::proofs::Pool::last_more), unfolding(crate::specs::Allocation::last_free))]
+fn last_free(m: u64, pool: &[u8]) -> Option<u8>
     ensures { result ≡ last_free m pool.now }
 {
-    let n = pool.len();
-    let mut i = n;
-    while 0 < i {
-        let at = i - 1;
-        let r = pool[at];
-        if base::has(m, r) {
-            return Ready::At(r);
+    for r in pool.iter().rev() {
+        if base::has(m, *r) {
+            return Some(*r);
         }
-        i -= 1;
     }
-    Ready::Nothing
+    None
 }
 
 // The registers of a pool as a mask.
+#[tactic(auto, unfolding(crate::specs::State::mask_of))]
 pub fn mask_of(pool: &[u8]) -> u64
     ensures { result ≡ mask_of 0 pool.now }
 {
-    let mut m: u64 = 0;
-    let mut i = 0;
-    while i < pool.len() {
-        m = base::with(m, pool[i]);
-        i += 1;
+    let mut m = 0;
+    for r in pool {
+        m = base::with(m, *r);
     }
     m
 }
@@ -87,19 +63,14 @@ fn noted(class: usize, p: Place, m: u64) -> u64
     ensures { result ≡ notes class p m }
 {
     match p {
-        Place::Slot(_) => m,
-        Place::Register(r) => {
-            if place::class_of(r) == class {
-                base::with(m, place::index_of(r))
-            } else {
-                m
-            }
-        }
+        Place::Register(r) if place::class_of(r) == class => base::with(m, place::index_of(r)),
+        _ => m,
     }
 }
 
 impl Alloc {
     // Every register of the pools is free.
+    #[tactic(auto, unfolding(crate::specs::State::fresh_of))]
     pub fn new(gprs: &[u8], fprs: &[u8]) -> Self
         ensures value { result ≡ fresh_of gprs.now fprs.now }
         ensures good { Good result }
@@ -108,43 +79,37 @@ impl Alloc {
             end: 0,
             place: Place::Slot(0),
         };
-        let active = [empty; 256];
-        let spare = [0u16; 128];
-        let g = mask_of(gprs);
-        let f = mask_of(fprs);
-        let free = [g, f];
-        let used = [0u64; 2];
         Self {
-            active: active,
+            active: [empty; 256],
             count: 0,
-            free: free,
-            used: used,
-            spare: spare,
+            free: [mask_of(gprs), mask_of(fprs)],
+            used: [0; 2],
+            spare: [0; 128],
             spares: 0,
             made: 0,
         }
     }
 
+    #[tactic(auto, unfolding(crate::specs::Allocation::free_reg))]
     fn free_reg(mut self, r: Reg) -> Self
         ensures { result ≡ free_reg r self }
     {
         let c = place::class_of(r);
-        let k = place::index_of(r);
-        let m = self.free[c];
-        self.free[c] = base::with(m, k);
+        self.free[c] = base::with(self.free[c], place::index_of(r));
         self
     }
 
+    #[tactic(auto, unfolding(crate::specs::Allocation::free_slot))]
     fn free_slot(mut self, k: u16) -> Self
         requires { self.spares < most_slots }
         ensures { result ≡ free_slot k self }
     {
-        let n = self.spares;
-        self.spare[n] = k;
-        self.spares = n + 1;
+        self.spare[self.spares] = k;
+        self.spares += 1;
         self
     }
 
+    #[tactic(auto, unfolding(crate::specs::Allocation::release))]
     fn release(self, p: Place) -> Self
         requires { Releasable p self }
         ensures { result ≡ release p self }
@@ -161,119 +126,103 @@ impl Alloc {
         ensures value { result ≡ expire_of at self }
         ensures good { Good result }
     {
-        let n = self.count;
         let mut kept = 0;
-        let mut i = 0;
-        while i < n {
+        for i in 0..self.count {
             let e = self.active[i];
             if e.end <= at {
-                let p = e.place;
-                self = self.release(p);
+                self = self.release(e.place);
             } else {
                 self.active[kept] = e;
                 kept += 1;
             }
-            i += 1;
         }
         self.count = kept;
         self
     }
 
+    #[tactic(auto, unfolding(crate::specs::Allocation::is_free))]
     pub fn is_free(self, r: Reg) -> bool
         ensures { result ≡ is_free r self }
     {
-        let c = place::class_of(r);
-        let k = place::index_of(r);
-        let m = self.free[c];
-        base::has(m, k)
+        base::has(self.free[place::class_of(r)], place::index_of(r))
     }
 
+    #[tactic(auto, unfolding(crate::specs::Allocation::take_reg))]
     fn take_reg(mut self, r: Reg) -> Self
         ensures { result ≡ take_reg r self }
     {
         let c = place::class_of(r);
         let k = place::index_of(r);
-        let m = self.free[c];
-        let u = self.used[c];
-        self.free[c] = base::without(m, k);
-        self.used[c] = base::with(u, k);
+        self.free[c] = base::without(self.free[c], k);
+        self.used[c] = base::with(self.used[c], k);
         self
     }
 
     // The top free slot, else a new one.
+    #[tactic(auto, unfolding(crate::specs::Allocation::take_slot))]
     fn take_slot(mut self) -> Taken
         requires { self.spares ≤ most_slots }
         ensures { result ≡ take_slot self }
     {
-        let n = self.spares;
-        let made = self.made;
-        if 0 < n {
-            let top = n - 1;
-            let k = self.spare[top];
-            self.spares = top;
+        if 0 < self.spares {
+            self.spares -= 1;
             return Taken {
                 state: self,
-                got: Got::At(Place::Slot(k)),
+                got: Some(Place::Slot(self.spare[self.spares])),
             };
         }
-        if 128 <= made {
+        if 128 <= self.made {
             return Taken {
                 state: self,
-                got: Got::NoSlot,
+                got: None,
             };
         }
-        self.made = made + 1;
+        let k = self.made;
+        self.made += 1;
         Taken {
             state: self,
-            got: Got::At(Place::Slot(made)),
+            got: Some(Place::Slot(k)),
         }
     }
 
     // The last free register of the pool, else a slot.
+    #[tactic(auto, unfolding(crate::specs::Allocation::from_pool))]
     fn from_pool(self, class: usize, pool: &[u8]) -> Taken
         requires { (class < 2) × (self.spares ≤ most_slots) }
         ensures { result ≡ from_pool class (last_free (get_or self.free class 0) pool.now) self }
     {
-        let m = self.free[class];
-        match last_free(m, pool) {
-            Ready::At(k) => {
+        match last_free(self.free[class], pool) {
+            Some(k) => {
                 let r = place::reg_of(class, k);
-                let s = self.take_reg(r);
                 Taken {
-                    state: s,
-                    got: Got::At(Place::Register(r)),
+                    state: self.take_reg(r),
+                    got: Some(Place::Register(r)),
                 }
             }
-            Ready::Nothing => self.take_slot(),
+            None => self.take_slot(),
         }
     }
 
     // Is the hint of the class, and free?
+    #[tactic(auto, unfolding(crate::specs::Allocation::hinted))]
     fn hinted(self, class: usize, r: Reg) -> bool
         ensures { result ≡ hinted class r self }
     {
-        let own = place::class_of(r);
-        if own == class { self.is_free(r) } else { false }
+        place::class_of(r) == class && self.is_free(r)
     }
 
     // The hint where it may be taken, else from the pool.
-    pub fn take(self, class: usize, hint: Hint, pool: &[u8]) -> Taken
+    #[tactic(auto, unfolding(crate::specs::Allocation::take_of))]
+    pub fn take(self, class: usize, hint: Option<Reg>, pool: &[u8]) -> Taken
         requires { (class < 2) × (self.spares ≤ most_slots) }
         ensures { result ≡ take_of class hint pool.now self }
     {
         match hint {
-            Hint::Nowhere => self.from_pool(class, pool),
-            Hint::At(r) => {
-                if self.hinted(class, r) {
-                    let s = self.take_reg(r);
-                    Taken {
-                        state: s,
-                        got: Got::At(Place::Register(r)),
-                    }
-                } else {
-                    self.from_pool(class, pool)
-                }
-            }
+            Some(r) if self.hinted(class, r) => Taken {
+                state: self.take_reg(r),
+                got: Some(Place::Register(r)),
+            },
+            _ => self.from_pool(class, pool),
         }
     }
 
@@ -282,13 +231,13 @@ impl Alloc {
         requires { self.count < most_active }
         ensures { result ≡ entered e self }
     {
-        let n = self.count;
-        self.active[n] = e;
-        self.count = n + 1;
+        self.active[self.count] = e;
+        self.count += 1;
         self
     }
 
     // A place for an id that has none: first expire, then take. Where there is none the state stays as it was.
+    #[tactic(auto, using(crate::proofs::Keeps::taken_room), unfolding(crate::specs::Allocation::new_place, crate::specs::Allocation::enter, crate::specs::Allocation::map_entered))]
     fn place_new(
         self,
         map: &mut [u32],
@@ -296,34 +245,30 @@ impl Alloc {
         class: usize,
         at: u32,
         end: u32,
-        hint: Hint,
+        hint: Option<Reg>,
         pool: &[u8],
     ) -> Taken
         requires { (class < 2) × Good self }
         ensures { (result ≡ new_place class at end hint pool.now self) × (map.new ≡ map_entered map.old id (take_of class hint pool.now (expire_of at self)).got) }
     {
-        let s = self.expire(at);
-        let t = s.take(class, hint, pool);
-        let got = t.got;
-        let next = t.state;
-        match got {
-            Got::At(p) => {
-                base::set32(map, id, place::word_of(Found::At(p)));
-                let e = Entry { end: end, place: p };
-                let last = next.push(e);
+        let t = self.expire(at).take(class, hint, pool);
+        match t.got {
+            Some(p) => {
+                base::set(map, id, place::word_of(Some(p)));
                 Taken {
-                    state: last,
-                    got: Got::At(p),
+                    state: t.state.push(Entry { end, place: p }),
+                    got: Some(p),
                 }
             }
-            Got::NoSlot => Taken {
+            None => Taken {
                 state: self,
-                got: Got::NoSlot,
+                got: None,
             },
         }
     }
 
     // An id that has a place gets it again, even after expiry.
+    #[tactic(auto, using(crate::proofs::Keeps::good_new), unfolding(crate::specs::Allocation::place_of, crate::specs::Allocation::map_after_place))]
     pub fn place(
         self,
         map: &mut [u32],
@@ -331,23 +276,24 @@ impl Alloc {
         class: usize,
         at: u32,
         end: u32,
-        hint: Hint,
+        hint: Option<Reg>,
         pool: &[u8],
     ) -> Taken
         requires { (class < 2) × Good self }
         ensures value { (result ≡ place_of map.old id class at end hint pool.now self) × (map.new ≡ map_after_place map.old id class at hint pool.now self) }
         ensures good { Good result.state }
     {
-        match place::found_of(base::get32(map, id)) {
-            Found::At(p) => Taken {
+        match place::found_of(base::get_or(map, id, 0)) {
+            Some(p) => Taken {
                 state: self,
-                got: Got::At(p),
+                got: Some(p),
             },
-            Found::Nowhere => self.place_new(map, id, class, at, end, hint, pool),
+            None => self.place_new(map, id, class, at, end, hint, pool),
         }
     }
 
     // An id in the register r, where that is free. Nothing expires.
+    #[tactic(auto, using(crate::proofs::Keeps::pin_room), unfolding(crate::specs::Allocation::pin_of, crate::specs::Allocation::map_after_pin))]
     pub fn pin(self, map: &mut [u32], id: usize, r: Reg, end: u32) -> Self
         requires { Good self }
         ensures value { (result ≡ pin_of r end self) × (map.new ≡ map_after_pin map.old id r self) }
@@ -356,28 +302,23 @@ impl Alloc {
         if self.is_free(r) {
             let taken = self.take_reg(r);
             let p = Place::Register(r);
-            base::set32(map, id, place::word_of(Found::At(p)));
-            let e = Entry { end: end, place: p };
-            return taken.push(e);
+            base::set(map, id, place::word_of(Some(p)));
+            return taken.push(Entry { end, place: p });
         }
         self
     }
 
     // The registers of a class that active entries hold past a row.
+    #[tactic(auto, unfolding(crate::specs::Allocation::live_after))]
     pub fn live_after(self, class: usize, row: u32) -> u64
         requires { self.count ≤ most_active }
         ensures { result ≡ live_after class row (live self) 0 }
     {
-        let n = self.count;
-        let mut m: u64 = 0;
-        let mut i = 0;
-        while i < n {
-            let e = self.active[i];
+        let mut m = 0;
+        for e in &self.active[..self.count] {
             if row < e.end {
-                let p = e.place;
-                m = noted(class, p, m);
+                m = noted(class, e.place, m);
             }
-            i += 1;
         }
         m
     }

@@ -5,6 +5,7 @@ use mathlib.Core.List.{List, [], ◌∷◌, ◌++◌, map, append_assoc}
 use Prim.Native.Nat.{ℕ, suc, ◌+◌, ◌≤◌}
 use native.Mathlib.Omega.{arith}
 use lib.ListN.{length}
+use Rattle.std.specs.Prelude.{Option, Some, Err}
 use Rattle.base.specs.Choice.{pick}
 use Rattle.base.specs.Lists.{among, distinct}
 use Rattle.base.proofs.Numbers.{pick-both}
@@ -13,16 +14,14 @@ use Rattle.place.specs.declared.Reg.TheVariants.{Gpr, Fpr}
 use Rattle.place.specs.declared.Place.TheVariants.{Register}
 use Rattle.place.specs.Places.{slots_from, class_of, index_of}
 use Rattle.alloc.specs.declared.Entry.{Entry}
+use Rattle.refusal.specs.declared.Refusal.TheVariants.{TooMany, BadReg}
 use Rattle.alloc.specs.declared.Alloc.{Alloc}
-use Rattle.alloc.specs.declared.Hint.{Hint}
-use Rattle.alloc.specs.declared.Hint.TheVariants as hint
 use Rattle.alloc.specs.State.{live, free_slots, fresh_of}
 use Rattle.alloc.specs.Allocation.{expire_of, place_of, is_free, pin_of}
 use Rattle.alloc.specs.Good.{times, Good}
 use Rattle.alloc.proofs.Keeps.{bit-true, free_reg_lem, fresh-times, good_fresh, good_expire, good_place, good_pin}
 use Rattle.alloc.proofs.Owned.{Fitted}
 use Rattle.alloc.proofs.Regs.{regs_expire, regs_place, regs_pin}
-use Rattle.alloc_entry.specs.declared.Answer.TheVariants as answer
 use Rattle.alloc_entry.specs.declared.Answered.{Answered}
 use Rattle.alloc_state.specs.Judged.{all_below, active_places, free_regs, places_of, state_ok, lists_short}
 use Rattle.alloc_entry.specs.Entries.{answered, no_slot, pool_of, call_ok, fresh_entry, place_entry, place_entry_map, pin_entry, pin_entry_map, expire_entry}
@@ -54,18 +53,18 @@ good_apart s g =
 
 -- ---- what every step keeps, every call keeps
 module _ (P : Alloc → Type 0) (on-expire : (at : ℕ) (s : Alloc) → P s → P (expire_of at s))
-    (on-place : (ids : List ℕ) (id class at end : ℕ) (h : Hint) (pool : List ℕ) (s : Alloc) → P s → P (place_of ids id class at end h pool s).state)
+    (on-place : (ids : List ℕ) (id class at end : ℕ) (h : Option Reg) (pool : List ℕ) (s : Alloc) → P s → P (place_of ids id class at end h pool s).state)
     (on-pin : (r : Reg) (end : ℕ) (s : Alloc) → P s → P (pin_of r end s)) (gprs fprs : List ℕ) where
   abbrev InState : Answered → Type 0
   InState t = P t.state
 
   -- a refusal has the state as it was
   judged_keeps : (s : Alloc) (t : Answered) → P s → InState t
-      → InState (pick (lists_short gprs fprs) (pick (state_ok gprs fprs s) t (answered answer.BadReg s)) (answered answer.TooMany s))
+      → InState (pick (lists_short gprs fprs) (pick (state_ok gprs fprs s) t (answered (Err BadReg) s)) (answered (Err TooMany) s))
   judged_keeps s t p q =
       pick-both InState (lists_short gprs fprs) _ _ (pick-both InState (state_ok gprs fprs s) _ _ q p) p
 
-  place_keeps : (ids : List ℕ) (id class at end : ℕ) (h : Hint) (s : Alloc) → P s → P (place_entry ids id class at end h gprs fprs s).state
+  place_keeps : (ids : List ℕ) (id class at end : ℕ) (h : Option Reg) (s : Alloc) → P s → P (place_entry ids id class at end h gprs fprs s).state
   unfolding place_entry
   place_keeps ids id class at end h s p =
       judged_keeps s _ p
@@ -76,7 +75,7 @@ module _ (P : Alloc → Type 0) (on-expire : (at : ℕ) (s : Alloc) → P s → 
   unfolding pin_entry
   pin_keeps ids id r end s p =
       judged_keeps s _ p
-      (pick-both InState (call_ok ids id (hint.At r)) _ _ (pick-both InState (is_free r s) _ _ (on-pin r end s p) p) p)
+      (pick-both InState (call_ok ids id (Some r)) _ _ (pick-both InState (is_free r s) _ _ (on-pin r end s p) p) p)
 
   expire_keeps : (at : ℕ) (s : Alloc) → P s → P (expire_entry at gprs fprs s).state
   unfolding expire_entry

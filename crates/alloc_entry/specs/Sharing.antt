@@ -1,17 +1,16 @@
 -- Calls come in any order, clock backwards included: no two active entries share a place, and no active place is free.
-use Rattle.std.specs.Prelude.{◌≡◌, false, ℕ, ◌+◌, ◌<◌, List, [], ◌∷◌, map, ◌++◌, length, get_or}
+use Rattle.std.specs.Prelude.{◌≡◌, false, ℕ, ◌+◌, ◌<◌, List, [], ◌∷◌, map, ◌++◌, length, get_or, Option}
 use Rattle.base.specs.Lists.{among}
 use Rattle.place.specs.declared.Reg.{Reg}
 use Rattle.place.specs.Places.{slots_from}
 use Rattle.alloc.specs.declared.Alloc.{Alloc}
-use Rattle.alloc.specs.declared.Hint.{Hint}
 use Rattle.alloc.specs.State.{live, free_slots}
 use Rattle.alloc_state.specs.Judged.{active_places, free_regs}
 use Rattle.alloc_entry.specs.Entries.{fresh_entry, place_entry, place_entry_map, pin_entry, pin_entry_map, expire_entry}
 
 -- a call of an entry that changes the state; asking changes nothing
 pub data Call : Type 0 where
-  place : (id class at end : ℕ) → Hint → Call
+  place : (id class at end : ℕ) → Option Reg → Call
   pin : (id : ℕ) → Reg → (end : ℕ) → Call
   expire : (at : ℕ) → Call
 

@@ -7,13 +7,14 @@ ghost use Rattle.alloc.specs.State.{fresh_of};
 ghost use Rattle.alloc.specs.Allocation.{place_of};
 ghost use Rattle.alloc.specs.Good.{Good};
 ghost use Rattle.alloc_entry.specs.Inner.{place_in, place_in_map, pin_in, pin_in_map};
-ghost use Rattle.alloc_entry.specs.Entries.{answered, no_slot, hint_ok, call_ok, was_used, fresh_entry, place_entry, place_entry_map, pin_entry, pin_entry_map, expire_entry, slots_entry, live_after_entry, used_entry, place_of_id, register_of_id};
+ghost use Rattle.alloc_entry.specs.Entries.{answered, judged, no_slot, hint_ok, call_ok, was_used, fresh_entry, place_entry, place_entry_map, pin_entry, pin_entry_map, expire_entry, slots_entry, live_after_entry, used_entry, place_of_id, register_of_id};
 
-use alloc::{Alloc, Got, Hint};
-use place::{Class, Found, Place, Reg};
+use alloc::Alloc;
+use place::{Class, Place, Reg};
+use refusal::Refusal;
 
-// What an entry answers.
-#[derive(Clone, Copy)]
+// What an entry answers where it refuses nothing.
+#[derive(Clone, Copy, Debug, PartialEq, Eq)]
 pub enum Answer {
     Done,
     Placed(Place),
@@ -22,31 +23,51 @@ pub enum Answer {
     Registers(u64, u64),
     Yes,
     No,
-    TooMany,
-    NoSlot,
-    BadReg,
 }
 
 #[derive(Clone, Copy)]
 pub struct Answered {
-    pub answer: Answer,
+    pub answer: Result<Answer, Refusal>,
     pub state: Alloc,
 }
 
-fn hint_ok(h: Hint) -> bool
+// A call that is refused hands the state back as it was.
+fn refused(why: Refusal, s: Alloc) -> Answered
+    ensures { result ≡ answered (Err why) s }
+{
+    Answered {
+        answer: Err(why),
+        state: s,
+    }
+}
+
+// 2 for the lists, 12 for the state.
+fn judged(s: Alloc, gprs: &[u8], fprs: &[u8]) -> Result<(), Refusal>
+    ensures { result ≡ judged gprs.now fprs.now s Err (Ok tt) }
+{
+    if !alloc_state::lists_short(gprs, fprs) {
+        return Err(Refusal::TooMany);
+    }
+    if !alloc_state::state_ok(s, gprs, fprs) {
+        return Err(Refusal::BadReg);
+    }
+    Ok(())
+}
+
+fn hint_ok(h: Option<Reg>) -> bool
     ensures { result ≡ hint_ok h }
 {
     match h {
-        Hint::Nowhere => true,
-        Hint::At(r) => alloc_state::reg_ok(r),
+        None => true,
+        Some(r) => alloc_state::reg_ok(r),
     }
 }
 
 // Is the hint a register, and the id in the map?
-fn call_ok(map: &[u32], id: usize, h: Hint) -> bool
+fn call_ok(map: &[u32], id: usize, h: Option<Reg>) -> bool
     ensures { result ≡ call_ok map.now id h }
 {
-    if hint_ok(h) { id < map.len() } else { false }
+    hint_ok(h) && id < map.len()
 }
 
 // Would a placement find no place? Nothing is changed.
@@ -56,27 +77,20 @@ fn finds_none(
     id: usize,
     class: usize,
     at: u32,
-    hint: Hint,
+    hint: Option<Reg>,
     pool: &[u8],
 ) -> bool
     requires { (class < 2) × Good s }
     ensures { (end : ℕ) → result ≡ no_slot (place_of map.now id class at end hint pool.now s).got }
 {
-    match place::found_of(base::get32(map, id)) {
-        Found::At(_) => false,
-        Found::Nowhere => {
-            let e = s.expire(at);
-            let t = e.take(class, hint, pool);
-            let got = t.got;
-            match got {
-                Got::At(_) => false,
-                Got::NoSlot => true,
-            }
-        }
+    match place::found_of(base::get_or(map, id, 0)) {
+        Some(_) => false,
+        None => s.expire(at).take(class, hint, pool).got.is_none(),
     }
 }
 
 // A place for an id of a state that was judged. Where the call's numbers are none, 8 still comes first.
+#[tactic(auto, unfolding(crate::specs::Inner::place_in, crate::specs::Inner::place_in_map))]
 fn place_in(
     s: Alloc,
     map: &mut [u32],
@@ -84,7 +98,7 @@ fn place_in(
     class: usize,
     at: u32,
     end: u32,
-    hint: Hint,
+    hint: Option<Reg>,
     pool: &[u8],
 ) -> Answered
     requires { (class < 2) × Good s }
@@ -92,96 +106,73 @@ fn place_in(
 {
     if call_ok(map, id, hint) {
         let t = s.place(map, id, class, at, end, hint, pool);
-        let got = t.got;
-        let next = t.state;
-        return match got {
-            Got::At(p) => Answered {
-                answer: Answer::Placed(p),
-                state: next,
+        return match t.got {
+            Some(p) => Answered {
+                answer: Ok(Answer::Placed(p)),
+                state: t.state,
             },
-            Got::NoSlot => Answered {
-                answer: Answer::NoSlot,
-                state: s,
-            },
+            None => refused(Refusal::NoSlot, s),
         };
     }
     if finds_none(s, map, id, class, at, hint, pool) {
-        return Answered {
-            answer: Answer::NoSlot,
-            state: s,
-        };
+        return refused(Refusal::NoSlot, s);
     }
-    Answered {
-        answer: Answer::BadReg,
-        state: s,
-    }
+    refused(Refusal::BadReg, s)
 }
 
 // A pin of an id in a state that was judged.
+#[tactic(auto, unfolding(crate::specs::Inner::pin_in, crate::specs::Inner::pin_in_map))]
 fn pin_in(s: Alloc, map: &mut [u32], id: usize, reg: Reg, end: u32) -> Answered
     requires { Good s }
     ensures { (result ≡ pin_in map.old id reg end s) × (map.new ≡ pin_in_map map.old id reg s) }
 {
-    if !call_ok(map, id, Hint::At(reg)) {
-        return Answered {
-            answer: Answer::BadReg,
-            state: s,
-        };
+    if !call_ok(map, id, Some(reg)) {
+        return refused(Refusal::BadReg, s);
     }
     if !s.is_free(reg) {
         return Answered {
-            answer: Answer::NotFree,
+            answer: Ok(Answer::NotFree),
             state: s,
         };
     }
-    let next = s.pin(map, id, reg, end);
     Answered {
-        answer: Answer::Placed(Place::Register(reg)),
-        state: next,
+        answer: Ok(Answer::Placed(Place::Register(reg))),
+        state: s.pin(map, id, reg, end),
     }
 }
 
 fn is_used(s: Alloc, r: Reg) -> bool
     ensures { result ≡ was_used r s }
 {
-    let c = place::class_of(r);
-    let k = place::index_of(r);
-    let m = s.used[c];
-    base::has(m, k)
+    base::has(s.used[place::class_of(r)], place::index_of(r))
 }
 
 // A refused fresh state has no register at all.
-fn no_state(why: Answer) -> Answered
-    ensures { result ≡ answered why (fresh_of [] []) }
+fn no_state(why: Refusal) -> Answered
+    ensures { result ≡ answered (Err why) (fresh_of [] []) }
 {
-    let state = Alloc::new(b"", b"");
-    Answered {
-        answer: why,
-        state: state,
-    }
+    refused(why, Alloc::new(b"", b""))
 }
 
 // A fresh state for two pool lists.
+#[tactic(auto, unfolding(crate::specs::Entries::fresh_entry))]
 pub fn fresh(gprs: &[u8], fprs: &[u8]) -> Answered
     ensures { result ≡ fresh_entry gprs.now fprs.now }
 {
     if !alloc_state::lists_short(gprs, fprs) {
-        return no_state(Answer::TooMany);
+        return no_state(Refusal::TooMany);
     }
-    if !alloc_state::all_below(gprs) {
-        return no_state(Answer::BadReg);
+    if !alloc_state::all_below(gprs) || !alloc_state::all_below(fprs) {
+        return no_state(Refusal::BadReg);
     }
-    if !alloc_state::all_below(fprs) {
-        return no_state(Answer::BadReg);
-    }
-    let state = Alloc::new(gprs, fprs);
     Answered {
-        answer: Answer::Done,
-        state: state,
+        answer: Ok(Answer::Done),
+        state: Alloc::new(gprs, fprs),
     }
 }
 
 // A place for an id, the one that it has or a new one.
+#[tactic(auto, using(crate::proofs::Refusals::judged_fine, crate::proofs::Refusals::judged_refuses, crate::proofs::Refusals::judged_good), unfolding(crate::specs::Entries::place_entry, crate::specs::Entries::place_entry_map, crate::specs::Inner::place_in, crate::specs::Inner::place_in_map))]
 pub fn place_id(
     s: Alloc,
     map: &mut [u32],
@@ -189,23 +180,14 @@ pub fn place_id(
     class: Class,
     at: u32,
     end: u32,
-    hint: Hint,
+    hint: Option<Reg>,
     gprs: &[u8],
     fprs: &[u8],
 ) -> Answered
     ensures { (result ≡ place_entry map.old id (class_number class) at end hint gprs.now fprs.now s) × (map.new ≡ place_entry_map map.old id (class_number class) at end hint gprs.now fprs.now s) }
 {
-    if !alloc_state::lists_short(gprs, fprs) {
-        return Answered {
-            answer: Answer::TooMany,
-            state: s,
-        };
-    }
-    if !alloc_state::state_ok(s, gprs, fprs) {
-        return Answered {
-            answer: Answer::BadReg,
-            state: s,
-        };
+    if let Err(why) = judged(s, gprs, fprs) {
+        return refused(why, s);
     }
     match class {
         Class::General => place_in(s, map, id, 0, at, end, hint, gprs),
@@ -214,6 +196,7 @@ pub fn place_id(
 }
 
 // An id in a register of the caller's choice.
+#[tactic(auto, using(crate::proofs::Refusals::judged_fine, crate::proofs::Refusals::judged_refuses, crate::proofs::Refusals::judged_good), unfolding(crate::specs::Entries::pin_entry, crate::specs::Entries::pin_entry_map, crate::specs::Inner::pin_in, crate::specs::Inner::pin_in_map))]
 pub fn pin_id(
     s: Alloc,
     map: &mut [u32],
@@ -225,108 +208,74 @@ pub fn pin_id(
 ) -> Answered
     ensures { (result ≡ pin_entry map.old id reg end gprs.now fprs.now s) × (map.new ≡ pin_entry_map map.old id reg gprs.now fprs.now s) }
 {
-    if !alloc_state::lists_short(gprs, fprs) {
-        return Answered {
-            answer: Answer::TooMany,
-            state: s,
-        };
-    }
-    if !alloc_state::state_ok(s, gprs, fprs) {
-        return Answered {
-            answer: Answer::BadReg,
-            state: s,
-        };
+    if let Err(why) = judged(s, gprs, fprs) {
+        return refused(why, s);
     }
     pin_in(s, map, id, reg, end)
 }
 
 // The entries that end at or before a row leave.
+#[tactic(auto, using(crate::proofs::Refusals::judged_fine, crate::proofs::Refusals::judged_refuses, crate::proofs::Refusals::judged_good), unfolding(crate::specs::Entries::expire_entry))]
 pub fn expire_at(s: Alloc, at: u32, gprs: &[u8], fprs: &[u8]) -> Answered
     ensures { result ≡ expire_entry at gprs.now fprs.now s }
 {
-    if !alloc_state::lists_short(gprs, fprs) {
-        return Answered {
-            answer: Answer::TooMany,
-            state: s,
-        };
+    if let Err(why) = judged(s, gprs, fprs) {
+        return refused(why, s);
     }
-    if !alloc_state::state_ok(s, gprs, fprs) {
-        return Answered {
-            answer: Answer::BadReg,
-            state: s,
-        };
-    }
-    let next = s.expire(at);
     Answered {
-        answer: Answer::Done,
-        state: next,
+        answer: Ok(Answer::Done),
+        state: s.expire(at),
     }
 }
 
 // The place of an id, if it has one.
-pub fn place_of(map: &[u32], id: usize) -> Found
+pub fn place_of(map: &[u32], id: usize) -> Option<Place>
     ensures { result ≡ place_of_id map.now id }
 {
-    place::found_of(base::get32(map, id))
+    place::found_of(base::get_or(map, id, 0))
 }
 
 // The register of an id, if it is in one.
-pub fn register_of(map: &[u32], id: usize) -> Found
+#[tactic(auto, unfolding(crate::specs::Entries::register_of_id))]
+pub fn register_of(map: &[u32], id: usize) -> Option<Place>
     ensures { result ≡ register_of_id map.now id }
 {
     match place_of(map, id) {
-        Found::Nowhere => Found::Nowhere,
-        Found::At(p) => match p {
-            Place::Slot(_) => Found::Nowhere,
-            Place::Register(r) => Found::At(Place::Register(r)),
-        },
+        Some(Place::Register(r)) => Some(Place::Register(r)),
+        _ => None,
     }
 }
 
 // How many slots were made.
-pub fn slots_made(s: Alloc, gprs: &[u8], fprs: &[u8]) -> Answer
+#[tactic(auto, using(crate::proofs::Refusals::judged_fine, crate::proofs::Refusals::judged_refuses, crate::proofs::Refusals::judged_good), unfolding(crate::specs::Entries::slots_entry))]
+pub fn slots_made(s: Alloc, gprs: &[u8], fprs: &[u8]) -> Result<Answer, Refusal>
     ensures { result ≡ slots_entry gprs.now fprs.now s }
 {
-    if !alloc_state::lists_short(gprs, fprs) {
-        return Answer::TooMany;
-    }
-    if !alloc_state::state_ok(s, gprs, fprs) {
-        return Answer::BadReg;
-    }
-    let made = s.made;
-    Answer::Slots(made)
+    judged(s, gprs, fprs)?;
+    Ok(Answer::Slots(s.made))
 }
 
 // The registers that active entries hold past a row.
-pub fn live_after(s: Alloc, row: u32, gprs: &[u8], fprs: &[u8]) -> Answer
+#[tactic(auto, using(crate::proofs::Refusals::judged_fine, crate::proofs::Refusals::judged_refuses, crate::proofs::Refusals::judged_good), unfolding(crate::specs::Entries::live_after_entry))]
+pub fn live_after(s: Alloc, row: u32, gprs: &[u8], fprs: &[u8]) -> Result<Answer, Refusal>
     ensures { result ≡ live_after_entry row gprs.now fprs.now s }
 {
-    if !alloc_state::lists_short(gprs, fprs) {
-        return Answer::TooMany;
-    }
-    if !alloc_state::state_ok(s, gprs, fprs) {
-        return Answer::BadReg;
-    }
-    let g = s.live_after(0, row);
-    let f = s.live_after(1, row);
-    Answer::Registers(g, f)
+    judged(s, gprs, fprs)?;
+    Ok(Answer::Registers(s.live_after(0, row), s.live_after(1, row)))
 }
 
 // Was a register ever taken?
-pub fn was_used(s: Alloc, reg: Reg, gprs: &[u8], fprs: &[u8]) -> Answer
+#[tactic(auto, using(crate::proofs::Refusals::judged_fine, crate::proofs::Refusals::judged_refuses, crate::proofs::Refusals::judged_good), unfolding(crate::specs::Entries::used_entry))]
+pub fn was_used(s: Alloc, reg: Reg, gprs: &[u8], fprs: &[u8]) -> Result<Answer, Refusal>
     ensures { result ≡ used_entry reg gprs.now fprs.now s }
 {
-    if !alloc_state::lists_short(gprs, fprs) {
-        return Answer::TooMany;
-    }
-    if !alloc_state::state_ok(s, gprs, fprs) {
-        return Answer::BadReg;
-    }
+    judged(s, gprs, fprs)?;
     if !alloc_state::reg_ok(reg) {
-        return Answer::BadReg;
+        return Err(Refusal::BadReg);
     }
-    if is_used(s, reg) {
-        return Answer::Yes;
-    }
-    Answer::No
+    Ok(if is_used(s, reg) {
+        Answer::Yes
+    } else {
+        Answer::No
+    })
 }

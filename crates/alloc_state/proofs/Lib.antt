@@ -1,4 +1,3 @@
-pub mod Turns
 pub mod Distinct
 pub mod Ours
 pub mod Marking

@@ -35,18 +35,6 @@ module _ (s : Alloc) where
       rw (le-leb s.count most_active c.actives, le-leb s.spares most_slots c.spares, le-leb s.made most_slots c.made)
 
 module _ (gprs fprs : List ℕ) (s : Alloc) where
-  pub bad_gprs : all_below gprs ≡ false → state_ok gprs fprs s ≡ false
-  unfolding state_ok
-  bad_gprs e = rw e
-
-  pub bad_fprs : all_below gprs ≡ true → all_below fprs ≡ false → state_ok gprs fprs s ≡ false
-  unfolding state_ok
-  bad_fprs e f = rw (e, f)
-
-  pub bad_counts : all_below gprs ≡ true → all_below fprs ≡ true → counts_ok s ≡ false → state_ok gprs fprs s ≡ false
-  unfolding state_ok
-  bad_counts e f c = rw (e, f, c)
-
   pub state_rest : all_below gprs ≡ true → all_below fprs ≡ true → counts_ok s ≡ true
       → state_ok gprs fprs s ≡ pick (all_ours gprs fprs s.made (places_of s)) (distinct (places_of s)) false
   unfolding state_ok

@@ -3,8 +3,8 @@ use mathlib.Core.Path.{◌≡◌, ap, ◌∙◌}
 use Prim.Native.Nat.{ℕ, ◌-◌, ◌≤◌}
 use mathlib.Core.List.{List}
 use native.Mathlib.Omega.{arith}
-use lib.ListN.{length, replicate}
-use Rattle.base.specs.Buffers.{zero_from}
+use lib.ListN.{length, take, replicate, length-take}
+use Rattle.base.specs.Buffers.{filled_from, zero_from}
 use Rattle.base.specs.declared.Pen.{Pen}
 use Rattle.base.proofs.Buffers.{get_or-zero_from-after}
 use Rattle.place.specs.Registers.{registers}
@@ -17,13 +17,13 @@ use Rattle.assemble.specs.Ops.{out_at, out_of, FrameReady, OpsPut}
 
 -- zero from the start on is zero in every place
 zeros : (l : List ℕ) → zero_from l 0 ≡ replicate (length l) 0
-unfolding zero_from
+unfolding filled_from
 zeros l = let e : length l - 0 ≡ length l = omega arith in rw e
 
 -- no label is bound where all are zero
-pub frame_ready : (labels₀ labels regs : List ℕ) (k : ℕ) → labels ≡ zero_from labels₀ 0 → k ≤ 192 → length regs ≡ 192 → FrameReady labels regs k
-frame_ready labels₀ labels regs k e f n =
-    record { unbound = λ t. rw e (get_or-zero_from-after labels₀ 0 t (omega arith)); few = f; there = omega arith }
+pub frame_ready : (labels₀ labels regs : List ℕ) (k : ℕ) → labels ≡ zero_from labels₀ 0 → k ≤ 192 → FrameReady labels (take k regs) (length (take k regs))
+frame_ready labels₀ labels regs k e f =
+    record { unbound = λ t. rw e (get_or-zero_from-after labels₀ 0 t (omega arith)); few = omega (arith, length-take k regs); there = omega arith }
 
 -- the function by the registers that its frame pushes
 pub function_put : (env : Env) (u : Used) (id top slots : ℕ) (ops spans labels labels₁ regs : List ℕ) {ops'' spans'' labels'' : List ℕ} {p : Pen}

@@ -23,7 +23,6 @@ use Rattle.frame.proofs.Keeping.{Behind}
 use Rattle.frame.proofs.Joining.{Joined, Kept, resolved, joins_over, joins_none, joins_left, keeps_over, keeps_none, keeps_left, labels_fit, held-resolved, left_ready}
 use Rattle.lists.specs.declared.Used.{Used}
 use Rattle.used.specs.Pens.{op_room, pen_at}
-use Rattle.assemble.specs.Assemble.{ProgramReady}
 use Rattle.assemble.specs.Ops.{out_at, out_of, FrameReady, OpsPut}
 
 -- the room passes neither buffer nor the most of a kind
@@ -72,71 +71,74 @@ within : (env : Env) (u : Used) (regs : List ℕ) (o : Out) → ((t : ℕ) → �
 unfolding entered
 within env u regs o z = body_within registers env u.switches u.lookups (entered regs o) (λ i. omega (arith, z i))
 
--- The first k numbers of a buffer are the frame's registers; prologue and body are put behind the program's ops.
-module _ (env : Env) {functions globals builtins : List ℕ} {u l : Used} {buffer : List ℕ} {k : ℕ}
-    {ops spans labels ops₁ spans₁ ops₂ spans₂ labels₂ : List ℕ} {p q r : Pen} (ready : ProgramReady env.ws functions ops spans globals builtins u l)
-    (frame : FrameReady labels buffer k) (starts : p ≡ pen_at env.ws ops spans u.ops)
-    (prologues : Lowers (entered (take k buffer)) ops spans labels p ops₁ spans₁ labels q)
+-- Prologue and body are put behind the program's ops.
+module _ (env : Env) (u : Used) {regs : List ℕ} {ops spans labels ops₁ spans₁ ops₂ spans₂ labels₂ : List ℕ} {p q r : Pen} (room : u.ops ≤ op_room ops spans)
+    (frame : FrameReady labels regs (length regs)) (starts : p ≡ pen_at env.ws ops spans u.ops)
+    (prologues : Lowers (entered (take (length regs) regs)) ops spans labels p ops₁ spans₁ labels q)
     (bodies : Lowers (body_of env u) ops₁ spans₁ labels q ops₂ spans₂ labels₂ r) where
+  -- the frame's registers are all of them
+  all_regs : take (length regs) regs ≡ regs
+  all_regs = take_all (length regs) regs (omega arith)
+
   room_is : p.room ≡ op_room ops spans
   room_is = ap (λ (x : Pen). x.room) starts
 
   used_fits : u.ops ≤ p.room
-  used_fits = rw room_is ready.ops_room
+  used_fits = rw room_is room
 
   start : Held ops spans (out_at env.ws ops spans labels u.ops) ops spans labels p
   start =
       let f = room_few ops spans in
-      rw starts (held_start ops spans labels u.ops (op_room ops spans) _ _ ready.ops_room f.1 f.2)
+      rw starts (held_start ops spans labels u.ops (op_room ops spans) _ _ room f.1 f.2)
 
-  grows : length (entered (take k buffer) (out_at env.ws ops spans labels u.ops)).ops
-      ≤ length (body_of env u (entered (take k buffer) (out_at env.ws ops spans labels u.ops))).ops
-  grows = body_grows registers env u.switches u.lookups (entered (take k buffer) (out_at env.ws ops spans labels u.ops))
+  grows : length (entered regs (out_at env.ws ops spans labels u.ops)).ops
+      ≤ length (body_of env u (entered regs (out_at env.ws ops spans labels u.ops))).ops
+  grows = body_grows registers env u.switches u.lookups (entered regs (out_at env.ws ops spans labels u.ops))
 
   -- the body found no room
   pub puts_over : r.full ≡ true
-      → OpsPut (out_of (take k buffer) env u (out_at env.ws ops spans labels u.ops)) u.ops ops spans ops₂ spans₂ labels₂ r
+      → OpsPut (out_of regs env u (out_at env.ws ops spans labels u.ops)) u.ops ops spans ops₂ spans₂ labels₂ r
   puts_over e =
-      put_all (out_of (take k buffer) env u) u.ops room_is
-      (joins_over buffer (take k buffer) k (function_span env.ws) (body_of env u) frame.there refl start prologues bodies grows e)
+      put_all (out_of regs env u) u.ops room_is
+      (joins_over regs regs (length regs) (function_span env.ws) (body_of env u) frame.there all_regs start prologues bodies grows e)
       (λ (f : r.full ≡ false). absurd (let z : ◌≡◌ {A = ℕ} 0 1 = cc in omega arith))
-      (keeps_over buffer (take k buffer) k (function_span env.ws) (body_of env u) frame.there refl start prologues bodies grows u.ops (behind env u _) used_fits refl refl)
+      (keeps_over regs regs (length regs) (function_span env.ws) (body_of env u) frame.there all_regs start prologues bodies grows u.ops (behind env u _) used_fits refl refl)
 
   -- it found room: what `resolve_all` asks for
   module _ (e : r.full ≡ false) where
     pub labels_low : (i : ℕ) → get_or labels₂ i 0 < 4294967296
     labels_low =
-        labels_fit buffer (take k buffer) k (function_span env.ws) (body_of env u) frame.there refl start prologues bodies grows e (rw room_is (room_few ops spans).0)
-        (within env u (take k buffer) (out_at env.ws ops spans labels u.ops) frame.unbound)
+        labels_fit regs regs (length regs) (function_span env.ws) (body_of env u) frame.there all_regs start prologues bodies grows e (rw room_is (room_few ops spans).0)
+        (within env u regs (out_at env.ws ops spans labels u.ops) frame.unbound)
 
     module _ {ops₃ : List ℕ} (resolves : Lowers (resolve_all q.at) ops₂ spans₂ labels₂ r ops₃ spans₂ labels₂ r) where
       -- no frame
-      pub puts_none : k ≡ 0
-          → OpsPut (out_of (take k buffer) env u (out_at env.ws ops spans labels u.ops)) u.ops ops spans ops₃ spans₂ labels₂ r
+      pub puts_none : length regs ≡ 0
+          → OpsPut (out_of regs env u (out_at env.ws ops spans labels u.ops)) u.ops ops spans ops₃ spans₂ labels₂ r
       puts_none z =
-          put_all (out_of (take k buffer) env u) u.ops room_is
-          (joins_none buffer (take k buffer) k (function_span env.ws) (body_of env u) frame.there refl start prologues bodies grows e resolves z)
+          put_all (out_of regs env u) u.ops room_is
+          (joins_none regs regs (length regs) (function_span env.ws) (body_of env u) frame.there all_regs start prologues bodies grows e resolves z)
           (λ _. labels_low)
-          (keeps_none buffer (take k buffer) k (function_span env.ws) (body_of env u) frame.there refl start prologues bodies grows e resolves u.ops (behind env u _) used_fits refl refl)
+          (keeps_none regs regs (length regs) (function_span env.ws) (body_of env u) frame.there all_regs start prologues bodies grows e resolves u.ops (behind env u _) used_fits refl refl)
 
       -- what `put_left` asks for
-      pub before-left : (r.full ≡ false) × (r.at ≤ r.room) × (r.room ≤ length ops₃) × (r.room ≤ length spans₂) × (r.room ≤ 65534) × (q.at ≤ r.at) × (k ≤ 192) × (k ≤ length buffer)
+      pub before-left : (r.full ≡ false) × (r.at ≤ r.room) × (r.room ≤ length ops₃) × (r.room ≤ length spans₂) × (r.room ≤ 65534) × (q.at ≤ r.at) × (length regs ≤ 192) × (length regs ≤ length regs)
       before-left =
-          let l = left_ready buffer (take k buffer) k (function_span env.ws) (body_of env u) frame.there refl start prologues bodies grows e resolves in
+          let l = left_ready regs regs (length regs) (function_span env.ws) (body_of env u) frame.there all_regs start prologues bodies grows e resolves in
           let m : r.room ≤ 65534 = rw (bodies.room_kept ∙ prologues.room_kept ∙ room_is) (room_few ops spans).0 in
           (e, l.0, l.1, l.2, m, l.3, frame.few, frame.there)
 
       -- epilogue and stubs, which found room or not
-      pub puts_left : {ops₄ spans₄ : List ℕ} {r' : Pen} → k ≢ 0
+      pub puts_left : {ops₄ spans₄ : List ℕ} {r' : Pen} → length regs ≢ 0
           → ((l ops₀ spans₀ : List ℕ) (o : Out) → Held ops₀ spans₀ o ops₃ spans₂ l r
-          → Framed (left (take k buffer) p.span q.at) ops₀ spans₀ o ops₄ spans₄ l r r')
-          → OpsPut (out_of (take k buffer) env u (out_at env.ws ops spans labels u.ops)) u.ops ops spans ops₄ spans₄ labels₂ r'
+          → Framed (left (take (length regs) regs) p.span q.at) ops₀ spans₀ o ops₄ spans₄ l r r')
+          → OpsPut (out_of regs env u (out_at env.ws ops spans labels u.ops)) u.ops ops spans ops₄ spans₄ labels₂ r'
       puts_left {ops₄} {spans₄} {r'} z leaves =
-          let h = held-resolved buffer (take k buffer) k (function_span env.ws) (body_of env u) frame.there refl start prologues bodies grows e resolves in
-          let f : Framed (left (take k buffer) (function_span env.ws) q.at) ops spans
-          (resolved (take k buffer) (body_of env u) (out_at env.ws ops spans labels u.ops)) ops₄ spans₄ labels₂ r r' =
+          let h = held-resolved regs regs (length regs) (function_span env.ws) (body_of env u) frame.there all_regs start prologues bodies grows e resolves in
+          let f : Framed (left (take (length regs) regs) (function_span env.ws) q.at) ops spans
+          (resolved regs (body_of env u) (out_at env.ws ops spans labels u.ops)) ops₄ spans₄ labels₂ r r' =
           rw (ap (λ (x : Pen). x.span) starts) at (leaves labels₂ ops spans _ h) in
-          put_all (out_of (take k buffer) env u) u.ops room_is
-          (joins_left buffer (take k buffer) k (function_span env.ws) (body_of env u) frame.there refl start prologues bodies grows e resolves z f)
+          put_all (out_of regs env u) u.ops room_is
+          (joins_left regs regs (length regs) (function_span env.ws) (body_of env u) frame.there all_regs start prologues bodies grows e resolves z f)
           (λ _. labels_low)
-          (keeps_left buffer (take k buffer) k (function_span env.ws) (body_of env u) frame.there refl start prologues bodies grows e resolves z f u.ops (behind env u _) used_fits refl refl)
+          (keeps_left regs regs (length regs) (function_span env.ws) (body_of env u) frame.there all_regs start prologues bodies grows e resolves z f u.ops (behind env u _) used_fits refl refl)

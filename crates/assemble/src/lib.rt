@@ -1,53 +1,40 @@
 // One function's ops behind those of the program.
 #![tactic(auto)]
 
-ghost use Rattle.std.specs.Prelude.{◌*◌, ◌≤◌, take};
+ghost use Rattle.std.specs.Prelude.{◌≤◌, length};
 ghost use Rattle.place.specs.Registers.{registers};
-ghost use Rattle.instrs.specs.Instrs.{seen};
-ghost use Rattle.assemble.specs.Assemble.{start_out, function_out, Lowerable, ProgramReady};
-ghost use Rattle.assemble.specs.Ops.{out_at, out_of, PlacesLow, FrameReady, OpsPut};
+ghost use Rattle.instrs.specs.Env.{env_of};
+ghost use Rattle.used.specs.Pens.{op_room};
+ghost use Rattle.assemble.specs.Assemble.{start_out, function_out, Lowerable};
+ghost use Rattle.assemble.specs.Ops.{out_at, out_of, FrameReady, OpsPut};
 
 use base::Pen;
+use instrs::Seen;
 use lists::Used;
 use placing::Placed;
 
-// Prologue, body, labels, epilogue and stubs, by the first k registers of an array.
+// Prologue, body, labels, epilogue and stubs, by the registers that the frame pushes.
 fn put_framed(
-    ws: &[u32],
-    places: &[u32],
-    noted: &[u64],
-    functions: &[u64],
     ops: &mut [u64],
     spans: &mut [u32],
     labels: &mut [u64],
-    globals: &[u64],
-    builtins: &[u32],
+    s: Seen,
     regs: &[u8],
-    k: usize,
     u: Used,
-    l: Used,
 ) -> Pen
-    requires lowerable { Lowerable ws.now }
-    requires places_low { PlacesLow places.now }
-    requires program_ready { ProgramReady ws.now functions.now ops.old spans.old globals.now builtins.now u l }
-    requires frame_ready { FrameReady labels.old regs.now k }
-    ensures { OpsPut (out_of (take k regs.now) (seen ws.now places.now noted.now functions.now (take (2 * l.globals) globals.now) (take l.builtins builtins.now)) u (out_at ws.now ops.old spans.old labels.old u.ops)) u.ops ops.old spans.old ops.new spans.new labels.new result }
+    requires lowerable { Lowerable s.ws.now }
+    requires used_few { (u.ops ≤ op_room ops.old spans.old) × (u.switches ≤ 65534) × (u.lookups ≤ 65534) }
+    requires frame_ready { FrameReady labels.old regs.now (length regs.now) }
+    ensures { OpsPut (out_of regs.now (env_of s.entry) u (out_at s.entry.ws.now ops.old spans.old labels.old u.ops)) u.ops ops.old spans.old ops.new spans.new labels.new result }
 {
-    let p = used::pen_at(ws, ops, spans, u.ops);
-    let q = frame::put_prologue(ops, spans, p, regs, k);
+    let p = used::pen_at(s.ws, ops, spans, u.ops);
+    let q = frame::put_prologue(ops, spans, p, regs, regs.len());
     let r = body::put_body(
         ops,
         spans,
         labels,
         q,
-        ws,
-        places,
-        noted,
-        functions,
-        globals,
-        l.globals,
-        builtins,
-        l.builtins,
+        s,
         u.switches as u32,
         u.lookups as u32,
     );
@@ -55,37 +42,28 @@ fn put_framed(
         return r;
     }
     frame::resolve_all(ops, labels, r, q.at);
-    if k == 0 {
+    if regs.is_empty() {
         return r;
     }
-    frame::put_left(ops, spans, r, regs, k, p.span, q.at)
+    frame::put_left(ops, spans, r, regs, regs.len(), p.span, q.at)
 }
 
 // The same with the registers that the function's frame pushes, and with no label bound before.
 pub fn put_ops(
-    ws: &[u32],
-    places: &[u32],
-    noted: &[u64],
-    functions: &[u64],
     ops: &mut [u64],
     spans: &mut [u32],
     labels: &mut [u64],
-    globals: &[u64],
-    builtins: &[u32],
+    s: Seen,
     p: Placed,
     u: Used,
-    l: Used,
 ) -> Pen
-    requires lowerable { Lowerable ws.now }
-    requires places_low { PlacesLow places.now }
+    requires lowerable { Lowerable s.ws.now }
     requires top_bound { (p.top ≤ 64) × (p.slots ≤ 128) }
-    requires program_ready { ProgramReady ws.now functions.now ops.old spans.old globals.now builtins.now u l }
-    ensures { OpsPut (function_out registers (seen ws.now places.now noted.now functions.now (take (2 * l.globals) globals.now) (take l.builtins builtins.now)) u p.top p.slots (start_out ws.now ops.old spans.old labels.old u)) u.ops ops.old spans.old ops.new spans.new labels.new result }
+    requires used_few { (u.ops ≤ op_room ops.old spans.old) × (u.switches ≤ 65534) × (u.lookups ≤ 65534) }
+    ensures { OpsPut (function_out registers (env_of s.entry) u p.top p.slots (start_out s.entry.ws.now ops.old spans.old labels.old u)) u.ops ops.old spans.old ops.new spans.new labels.new result }
 {
-    base::zero64(labels, 0);
+    base::fill_from(labels, 0, 0);
     let mut regs = [0u8; 192];
-    let k = frame::frame_regs(input::head_field(ws, 0), p.top, p.slots, &mut regs);
-    put_framed(
-        ws, places, noted, functions, ops, spans, labels, globals, builtins, &regs, k, u, l,
-    )
+    let k = frame::frame_regs(input::head_field(s.ws, 0), p.top, p.slots, &mut regs);
+    put_framed(ops, spans, labels, s, &regs[..k], u)
 }

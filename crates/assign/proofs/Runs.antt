@@ -1,6 +1,5 @@
 -- One turn of each loop over values, and its end, over plain variables; what a row of parameters or an instruction is.
 use Prim.Native.Nat.{ℕ, suc, ◌+◌, ◌-◌, ◌<◌, ◌≤◌}
-use mathlib.Core.Bool.{Bool, true, false}
 use mathlib.Core.List.{List, [], ◌∷◌, ◌++◌}
 use mathlib.Core.Path.{◌≡◌, refl, ap, ap₂, ◌∙◌}
 use native.Mathlib.Omega.{arith}
@@ -95,14 +94,6 @@ module _ (ws pool : List ℕ) (r : ℕ) (w : Walk) where
   pub note-some : (d : ℕ) → 0 < d → run ws pool (notes r (maybe d)) w ≡ note_step r (d - 1) w
   unfolding run notes step
   note-some d h = let e : d ≡ suc (d - 1) = omega arith in ap (λ (n : ℕ). run ws pool (notes r (maybe n)) w) e
-
-  pub note-yes : (i : ℕ) → is_call ws i ≡ true
-      → run ws pool (pick (is_call ws i) (notes r (defined_by ws i)) []) w ≡ run ws pool (notes r (defined_by ws i)) w
-  note-yes i h = ap (λ (t : Bool). run ws pool (pick t (notes r (defined_by ws i)) []) w) h
-
-  pub note_no : (i : ℕ) → is_call ws i ≡ false → run ws pool (pick (is_call ws i) (notes r (defined_by ws i)) []) w ≡ w
-  unfolding run
-  note_no i h = ap (λ (t : Bool). run ws pool (pick t (notes r (defined_by ws i)) []) w) h
 
   pub instr_split : (i : ℕ)
       → run ws pool (row_steps ws r (instr i)) w

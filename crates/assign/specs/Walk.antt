@@ -1,11 +1,10 @@
 -- What each step does. In lowering `at` is the value's row, whatever its interval's start.
-use Rattle.std.specs.Prelude.{ℕ, zero, suc, ◌+◌, ◌-◌, Bool, true, false, List, [], ◌∷◌, leb, ltb, eqb, get_or, set, replicate}
+use Rattle.std.specs.Prelude.{ℕ, zero, suc, ◌+◌, ◌-◌, Bool, true, false, List, [], ◌∷◌, leb, ltb, eqb, get_or, set, replicate, Option, Some, None}
 use Rattle.base.specs.Choice.{pick}
 use Rattle.base.specs.Masks.{has_bit}
+use Rattle.place.specs.declared.Reg.{Reg}
 use Rattle.place.specs.declared.Reg.TheVariants.{Gpr}
 use Rattle.alloc.specs.declared.Alloc.{Alloc}
-use Rattle.alloc.specs.declared.Hint.{Hint}
-use Rattle.alloc.specs.declared.Hint.TheVariants as to
 use Rattle.alloc.specs.State.{live, fresh_of}
 use Rattle.alloc.specs.Allocation.{is_free, place_of, map_after_place, pin_of, map_after_pin, live_after}
 use Rattle.input.specs.Layout.{values}
@@ -24,10 +23,10 @@ pub record Walk : Type 0 where
 abbrev pub walk : Alloc → List ℕ → List ℕ → List ℕ → Walk
 walk a m h n = record { alloc = a; map = m; wish = h; noted = n }
 
-unfoldable pub hint_for : ℕ → Hint
-hint_for x = pick (eqb x 0) to.Nowhere (pick (leb x 64) (to.At (Gpr (x - 1))) to.Nowhere)
+unfoldable pub hint_for : ℕ → Option Reg
+hint_for x = pick (eqb x 0) None (pick (leb x 64) (Some (Gpr (x - 1))) None)
 
-abbrev pub wish_of : Walk → ℕ → Hint
+abbrev pub wish_of : Walk → ℕ → Option Reg
 wish_of w v = hint_for (get_or w.wish v 0)
 
 -- a value of the general class, at its row, until its end, from the pool

@@ -11,23 +11,22 @@ ghost use Rattle.assign.specs.Steps.{is_call, pins, places, notes, row_steps};
 ghost use Rattle.assign.specs.Walk.{walk, hint_for, place_step, pin_step, run};
 ghost use Rattle.assign.specs.Fits.{Fits};
 
-use alloc::{Alloc, Hint};
+use alloc::Alloc;
 use place::Reg;
 
 // What a hint's word says.
-pub fn hint_for(x: u32) -> Hint
+#[tactic(auto, unfolding(crate::specs::Walk::hint_for))]
+pub fn hint_for(x: u32) -> Option<Reg>
     ensures { result ≡ hint_for x }
 {
-    if x == 0 {
-        return Hint::Nowhere;
+    match x {
+        1..=64 => Some(Reg::Gpr((x - 1) as u8)),
+        _ => None,
     }
-    if x <= 64 {
-        return Hint::At(Reg::Gpr((x - 1) as u8));
-    }
-    Hint::Nowhere
 }
 
 // One value is placed at a row.
+#[tactic(auto, unfolding(crate::specs::Walk::place_step))]
 fn place_value(
     s: Alloc,
     ws: &[u32],
@@ -42,12 +41,12 @@ fn place_value(
     ensures by_index { (n : List ℕ) → walk result map.new wish.now n ≡ place_step ws.now pool.now row v (walk s map.old wish.now n) }
 {
     let end = input::value_field(ws, v, 1);
-    let h = hint_for(base::get32(wish, v as usize));
-    let t = s.place(map, v as usize, 0, row, end, h, pool);
-    t.state
+    let h = hint_for(base::get_or(wish, v as usize, 0));
+    s.place(map, v as usize, 0, row, end, h, pool).state
 }
 
 // One parameter of block 0 is pinned, or placed where its register isn't free.
+#[tactic(auto, unfolding(crate::specs::Walk::pin_step))]
 fn pin_value(
     s: Alloc,
     ws: &[u32],
@@ -86,11 +85,9 @@ fn place_list(
     ensures by_index { (m : List ℕ) → walk result map.new wish.now m ≡ run ws.now pool.now (places row (list_at ws.now at n)) (walk s map.old wish.now m) }
 {
     let mut t = s;
-    let mut j = 0;
-    while j < n {
+    for j in 0..n {
         let v = input::pool_at(ws, at, j);
         t = place_value(t, ws, map, wish, pool, row, v);
-        j += 1;
     }
     t
 }
@@ -112,11 +109,9 @@ fn pin_list(
     ensures by_index { (m : List ℕ) → walk result map.new wish.now m ≡ run ws.now pool.now (pins row 0 (list_at ws.now at n)) (walk s map.old wish.now m) }
 {
     let mut t = s;
-    let mut j = 0;
-    while j < n {
+    for j in 0..n {
         let v = input::pool_at(ws, at, j);
         t = pin_value(t, ws, map, wish, pool, row, j as u8, v);
-        j += 1;
     }
     t
 }
@@ -125,7 +120,7 @@ fn pin_list(
 fn calls(kind: u32) -> bool
     ensures { result ≡ pick (eqb kind call) true (eqb kind sys) }
 {
-    if kind == 3 { true } else { kind == 4 }
+    kind == 3 || kind == 4
 }
 
 // The registers that active entries hold past a row are noted for a destination, given as 0 for none, else the value and 1.
@@ -133,22 +128,19 @@ fn note_maybe(s: Alloc, noted: &mut [u64], row: u32, d: u32)
     requires { Good s }
     ensures { (ws pool m h : List ℕ) → walk s m h noted.new ≡ run ws pool (notes row (maybe d)) (walk s m h noted.old) }
 {
-    if d == 0 {
-        return;
+    if d != 0 {
+        base::set(noted, (d - 1) as usize, s.live_after(0, row));
     }
-    let m = s.live_after(0, row);
-    base::set64(noted, (d - 1) as usize, m);
 }
 
 // A Call or Sys notes them for the value that it defines.
+#[tactic(auto, unfolding(crate::specs::Walk::run))]
 fn note_row(s: Alloc, ws: &[u32], noted: &mut [u64], row: u32, i: u32)
     requires { Good s }
     ensures { (pool m h : List ℕ) → walk s m h noted.new ≡ run ws.now pool (pick (is_call ws.now i) (notes row (defined_by ws.now i)) []) (walk s m h noted.old) }
 {
-    let kind = input::instr_field(ws, i, 0);
-    if calls(kind) {
-        let d = input::instr_field(ws, i, 2);
-        note_maybe(s, noted, row, d);
+    if calls(input::instr_field(ws, i, 0)) {
+        note_maybe(s, noted, row, input::instr_field(ws, i, 2));
     }
 }
 

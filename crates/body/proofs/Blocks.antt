@@ -18,12 +18,11 @@ use Rattle.input.specs.Records.{tombstone, first_instr, instr_count, term_kind, 
 use Rattle.rows.specs.Rows.{block_rows, rows_from}
 use Rattle.rows.proofs.Every.{length-live}
 use Rattle.edges.specs.Edges.{has_moves, pad_count}
-use Rattle.ready.specs.Ready.{Ready, Live, InstrOf}
+use Rattle.ready.specs.Ready.{Ready, Live}
 use Rattle.body.specs.declared.Tally.{Tally}
 use Rattle.instrs.specs.Instrs.{Env, lookups_in, instrs_ops}
 use Rattle.terms.specs.Terms.{term_ops}
 use Rattle.body.specs.Body.{next_live, tallied, is_switch, block_ops, blocks_ops, root_ret, body_ops}
-use Rattle.instrs.specs.Needs.{InstrReady}
 
 -- ---- a block: its label, its instructions, its terminator
 pub block_as : (n : ℕ) (env : Env) (t : Tally) (b₀ k : ℕ) {first count next : ℕ} {o b l o₁ b₁ l₁ o₂ b₂ l₂ o₃ b₃ l₃ : List ℕ} {p p₁ p₂ p₃ : Pen}
@@ -33,13 +32,8 @@ pub block_as : (n : ℕ) (env : Env) (t : Tally) (b₀ k : ℕ) {first count nex
 unfolding block_ops
 block_as n env t b₀ k e f g x y z = renamed (then (then x y) z) (λ q. rw (e, f, g))
 
--- the instructions of a block are ready
-pub instrs_ready : (ws : List ℕ) (b : ℕ) {first count : ℕ} → ((b i : ℕ) → InstrOf ws b i → InstrReady ws i) → Live ws b → first ≡ first_instr ws b
-    → count ≡ instr_count ws b → (i : ℕ) → first ≤ i → i < first + count → InstrReady ws i
-instrs_ready ws b all live e f i h g = all b i (record { block = live; from = omega arith; until = omega arith })
-
-pub is_live_lem : (ws : List ℕ) (b : ℕ) {mark : ℕ} → b < blocks ws → mark ≡ tombstone ws b → mark ≡ 0 → Live ws b
-is_live_lem ws b h e f = record { there = h; is = eq-eqb (tombstone ws b) 0 (sym e ∙ f) }
+pub live_at : (ws : List ℕ) (b : ℕ) {m mark : ℕ} → m ≡ blocks ws → b < m → mark ≡ tombstone ws b → mark ≡ 0 → Live ws b
+live_at ws b n h e f = record { there = omega arith; is = eq-eqb (tombstone ws b) 0 (sym e ∙ f) }
 
 -- ---- block b of the m, with a mark
 module _ (n : ℕ) (env : Env) (t : Tally) (b m : ℕ) {mark : ℕ} (e : mark ≡ tombstone env.ws b) (h : b < m) where
@@ -56,10 +50,6 @@ module _ (n : ℕ) (env : Env) (t : Tally) (b m : ℕ) {mark : ℕ} (e : mark �
   blocks-dead f q =
       let a : m - b ≡ suc (m - (b + 1)) = omega arith in
       rw (a, ne_eqb (tombstone env.ws b) 0 (λ (z : tombstone env.ws b ≡ 0). f (e ∙ z)))
-
-pub blocks-first : (n : ℕ) (env : Env) (t : Tally) {m : ℕ} → m ≡ blocks env.ws → (q : Out)
-    → blocks_ops n env t 0 (m - 0) q ≡ blocks_ops n env t 0 (blocks env.ws) q
-blocks-first n env t {m} e q = let a : m - 0 ≡ blocks env.ws = omega arith in rw a
 
 pub blocks_none : (n : ℕ) (env : Env) (t : Tally) (b m : ℕ) → m ≤ b → (q : Out) → blocks_ops n env t b (m - b) q ≡ q
 unfolding blocks_ops
@@ -106,6 +96,15 @@ pub record Tallied (t : Tally) (b : ℕ) : Type 0 where
   pub switches_few : t.switches ≤ 65534 + b
   pub lookups_few : t.lookups ≤ 65534 + 16384 * b
   pub label_few : t.label ≤ 2048 + 1024 * b
+
+-- what stands before a block and in it keeps to the numbers
+pub tally_low : (ws : List ℕ) (b : ℕ) {t : Tally} → Ready ws → Live ws b → Tallied t b
+    → (t.switches < 4294967295) × (t.lookups + instr_count ws b < 4294967296) × (t.label + 1024 < 4294967296)
+tally_low ws b r live x = (
+  omega (arith, x.switches_few, r.few_blocks, live.there),
+  omega (arith, x.lookups_few, instrs_few ws b r live, r.few_blocks, live.there),
+  omega (arith, x.label_few, r.few_blocks, live.there),
+)
 
 pub tallied-dead : {t : Tally} {b : ℕ} → Tallied t b → Tallied t (b + 1)
 tallied-dead x =

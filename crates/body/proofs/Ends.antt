@@ -1,29 +1,19 @@
--- Whether an op ends the flow, and the root's Ret.
+-- The root's Ret.
 use mathlib.Core.Path.{◌≡◌, sym, ◌∙◌}
 use mathlib.Core.Bool.{true, false}
 use Prim.Native.Nat.{ℕ}
 use mathlib.Core.List.{List}
 use borrow.Author.Tests.{eq-eqb, ne_eqb}
-use lib.Dec.{eqb}
 use Rattle.base.specs.Choice.{pick}
 use Rattle.base.specs.declared.Pen.{Pen}
 use Rattle.base.specs.Emission.{emit}
 use Rattle.base.specs.Lent.{Lowers}
 use Rattle.base.proofs.Pens.{lowers_none, renamed}
-use Rattle.op.specs.declared.Op.{Op}
-use Rattle.op.specs.Words.{word, parts}
+use Rattle.op.specs.Words.{word}
 use Rattle.op.specs.Ops as op
 use Rattle.input.specs.Layout.{function_id}
 use Rattle.lower.proofs.Operands.{by_last}
 use Rattle.body.specs.Body.{ends_flow, root_ret}
-
--- does an op end the flow?
-module _ (last : ℕ) {o : Op} (e : o ≡ parts last) where
-  pub ends-ret : o.code ≡ 33 → true ≡ ends_flow last
-  ends-ret h = rw (← e, h)
-
-  pub ends-tail : (o.code ≡ 33 → ⊥) → eqb o.code 14 ≡ ends_flow last
-  ends-tail h = rw (← e, ne_eqb o.code 33 h)
 
 -- no function but the root gets a Ret, nor does a root that has one
 module _ (ws : List ℕ) {id : ℕ} {o b l : List ℕ} {p : Pen} (e : id ≡ function_id ws) where

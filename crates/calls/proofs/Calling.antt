@@ -1,12 +1,10 @@
 -- Calls and tails from what their steps emit.
-use mathlib.Core.Path.{◌≡◌, refl, sym, ap, ◌∙◌}
-use mathlib.Core.Bool.{Bool, true, false, ◌&&◌}
+use mathlib.Core.Path.{◌≡◌, refl, ap}
+use mathlib.Core.Bool.{Bool, true, false}
 use mathlib.Core.List.{List, map, reverse}
-use Prim.Native.Nat.{ℕ, zero, suc, ◌+◌, ◌-◌, ◌%◌, ◌^◌, ◌≤◌, max}
-use borrow.Author.Tests.{eq-eqb, ne_eqb}
+use Prim.Native.Nat.{ℕ, zero, suc, ◌+◌, ◌%◌, ◌^◌, max}
 use lib.Dec.{leb, eqb}
-use lib.ListN.{length, take}
-use lib.Seq.{length-take-le}
+use lib.ListN.{length}
 use Rattle.base.specs.declared.Pen.{Pen}
 use Rattle.base.specs.Emission.{emit, emit_all}
 use Rattle.base.specs.Lent.{Lowers}
@@ -15,7 +13,7 @@ use Rattle.place.specs.Registers.{first_kept}
 use Rattle.op.specs.Words.{word}
 use Rattle.op.specs.Ops as op
 use Rattle.machine.specs.Stack.{pushes_of, pops_of}
-use Rattle.program.specs.Functions.{function_kind, function_number, bytecode, native}
+use Rattle.program.specs.Functions.{function_kind, function_number, bytecode}
 use Rattle.input.specs.Layout.{list_at}
 use Rattle.input.specs.Forms.{both}
 use Rattle.lower.specs.Operands.{dest_reg, stored}
@@ -28,14 +26,13 @@ list_length ws i zero = refl
 list_length ws i (suc n) = ap suc (list_length ws (i + 1) n)
 
 -- what stands before the op that calls, that op, and what stands after it
-pub call-whole : (n : ℕ) (places regs pushes arguments : List ℕ) (k called dst : ℕ) {o b l o₁ b₁ o₂ b₂ o₃ b₃ : List ℕ} {p p₁ p₂ p₃ : Pen}
-    → k ≤ length regs → take k regs ≡ pushes
-    → Lowers (λ q. shuffle n places k arguments (emit_all (map word (pushes_of (take k regs))) q)) o b l p o₁ b₁ l p₁
+pub call-whole : (n : ℕ) (places regs arguments : List ℕ) (called dst : ℕ) {pushes o b l o₁ b₁ o₂ b₂ o₃ b₃ : List ℕ} {p p₁ p₂ p₃ : Pen} → regs ≡ pushes
+    → Lowers (λ q. shuffle n places (length regs) arguments (emit_all (map word (pushes_of regs)) q)) o b l p o₁ b₁ l p₁
     → Lowers (emit called) o₁ b₁ l p₁ o₂ b₂ l p₂
-    → Lowers (λ q. stored n dst (emit_all (map word (pops_of (reverse (take k regs)))) (emit (word (op.mov (dest_reg n dst) 0)) q))) o₂ b₂ l p₂ o₃ b₃ l p₃
+    → Lowers (λ q. stored n dst (emit_all (map word (pops_of (reverse regs))) (emit (word (op.mov (dest_reg n dst) 0)) q))) o₂ b₂ l p₂ o₃ b₃ l p₃
     → Lowers (call_with n places pushes arguments called dst) o b l p o₃ b₃ l p₃
 unfolding call_with
-call-whole n places regs pushes arguments k called dst h e x y z = renamed (then (then x y) z) (λ q. rw (← e, length-take-le k regs h))
+call-whole n places regs arguments called dst e x y z = renamed (then (then x y) z) (λ q. rw (← e))
 
 -- a call and a builtin, by what their limit and op are
 module _ (n : ℕ) (ws places : List ℕ) (noted at count dst : ℕ) {limit called : ℕ} {o b l o' b' : List ℕ} {p p' : Pen} where
@@ -50,21 +47,6 @@ module _ (n : ℕ) (ws places : List ℕ) (noted at count dst : ℕ) {limit call
       → Lowers (lower_sys n places noted (list_at ws at count) number dst) o b l p o' b' l p'
   unfolding lower_sys
   call_builtin number e h s = renamed s (λ q. rw (list_length ws at count, e, h))
-
--- the op that calls a function, by its kind
-module _ (f : ℕ) {kind number : ℕ} (ek : kind ≡ function_kind f) (en : number ≡ function_number f % 2 ^ 32) where
-  pub as_bytecode : {w : ℕ} → kind ≡ bytecode → w ≡ word (op.call number) → w ≡ called_as f
-  unfolding called_as
-  as_bytecode h e = e ∙ rw (eq-eqb (function_kind f) bytecode (sym ek ∙ h), en)
-
-  pub as_native : {w double : ℕ} → (kind ≡ bytecode → ⊥) → double ≡ kind - native → w ≡ word (op.native number double) → w ≡ called_as f
-  unfolding called_as
-  as_native h d e = e ∙ rw (ne_eqb (function_kind f) bytecode (λ (k : function_kind f ≡ bytecode). h (ek ∙ k)), d, en, ek)
-
--- two tests
-pub both_tests : (s t : Bool) → (s && t) ≡ both s t
-both_tests true t = refl
-both_tests false t = refl
 
 -- a tail after its shuffle
 module _ (n : ℕ) (ws places : List ℕ) (at count f : ℕ) {o b l o₁ b₁ o₂ b₂ : List ℕ} {p p₁ p₂ : Pen}

@@ -1,14 +1,12 @@
 -- The moves of arguments into registers 0 and up, pair by pair.
 use mathlib.Core.Path.{◌≡◌, refl, ap, ◌∙◌}
 use mathlib.Core.List.{List, [], ◌∷◌, ◌++◌}
-use Prim.Native.Nat.{ℕ, ◌+◌, ◌≤◌, ◌<◌}
+use Prim.Native.Nat.{ℕ, ◌+◌}
 use native.Mathlib.Nat.{add_assoc, add-zero}
-use borrow.Author.Tests.{lt-ltb, le-ltb}
 use Rattle.base.specs.declared.Pen.{Pen}
 use Rattle.base.specs.Emission.{emit_all}
 use Rattle.base.specs.Lent.{Lowers}
 use Rattle.base.proofs.Pens.{renamed}
-use Rattle.place.specs.Places.{slots_from}
 use Rattle.machine.specs.Stack.{raised}
 use Rattle.moves.specs.Moves.{move_words}
 use Rattle.input.specs.Layout.{pool_at, list_at}
@@ -17,13 +15,6 @@ use Rattle.lower.specs.Operands.{place_at}
 use Rattle.edges.specs.Pairs.{differing_sources, differing_destinations, move_pairs}
 use Rattle.edges.proofs.Columns.{first_source, first-destination}
 use Rattle.calls.specs.Calls.{argument_places, argument_regs, shuffle}
-
--- a register stays, a slot is raised
-pub raised-register : (pushes place : ℕ) → place < slots_from → place ≡ raised pushes place
-raised-register pushes place h = rw (lt-ltb place slots_from h)
-
-pub raised-slot : (pushes place : ℕ) → slots_from ≤ place → place + pushes ≡ raised pushes place
-raised-slot pushes place h = rw (le-ltb place slots_from h)
 
 module _ (ws places : List ℕ) (pushes : ℕ) where
   -- where arguments come from, and where they go, the first of them into register r

@@ -1,7 +1,7 @@
 // Calls and tails.
 #![tactic(auto)]
 
-ghost use Rattle.std.specs.Prelude.{◌≡◌, List, reverse, ℕ, ◌+◌, ◌-◌, ◌%◌, ◌^◌, ◌≤◌, ◌<◌, max, leb, eqb, length, take, drop};
+ghost use Rattle.std.specs.Prelude.{◌≡◌, List, reverse, ℕ, ◌+◌, ◌-◌, ◌%◌, ◌^◌, ◌≤◌, ◌<◌, leb, eqb, length, take};
 ghost use mathlib.Core.List as list;
 ghost use Rattle.base.specs.Emission.{emit, emit_all};
 ghost use Rattle.base.specs.Lent.{Lowers};
@@ -30,13 +30,11 @@ fn pushes_of(mask: u64, limit: u8, regs: &mut [u8]) -> usize
     ensures { (result ≤ limit) × (take result regs.new ≡ masked_from mask 0 limit) }
 {
     let mut k = 0;
-    let mut r = 0;
-    while r < limit {
+    for r in 0..limit {
         if base::has(mask, r) {
             regs[k] = r;
             k += 1;
         }
-        r += 1;
     }
     k
 }
@@ -63,12 +61,10 @@ fn gather_arguments(
     ensures { (result ≤ count) × (take result src.new ≡ differing_sources (argument_places map.now pushes (list_at ws.now at count)) (argument_regs 0 (list_at ws.now at count))) × (take result dst.new ≡ differing_destinations (argument_places map.now pushes (list_at ws.now at count)) (argument_regs 0 (list_at ws.now at count))) }
 {
     let mut m = 0;
-    let mut j = 0;
-    while j < count {
+    for j in 0..count {
         let place = lower::place_at(map, input::pool_at(ws, at, j));
         let s = raised_by(pushes, place);
         m = edges::add_pair(src, dst, m, s, j);
-        j += 1;
     }
     m
 }
@@ -87,13 +83,13 @@ fn put_shuffle(
     requires { (count ≤ 62) × ((i : ℕ) → i < count → place_at map.now (pool_at ws.now (at + i)) + pushes < 4294967296) }
     ensures { (l : List ℕ) → Lowers (shuffle registers map.now pushes (list_at ws.now at count)) ops.old spans.old l p ops.new spans.new l result }
 {
-    let mut src = [0u32; MOST_ARGUMENTS];
-    let mut dst = [0u32; MOST_ARGUMENTS];
+    let mut src = [0; MOST_ARGUMENTS];
+    let mut dst = [0; MOST_ARGUMENTS];
     let n = gather_arguments(ws, map, &mut src, &mut dst, pushes, at, count);
     moves_code::put_moves(ops, spans, p, &mut src, &mut dst, n)
 }
 
-// The pushes of the first k registers, then the arguments.
+// The pushes of the registers, then the arguments.
 fn put_before(
     ops: &mut [u64],
     spans: &mut [u32],
@@ -101,32 +97,23 @@ fn put_before(
     ws: &[u32],
     map: &[u32],
     regs: &[u8],
-    k: usize,
     at: u32,
     count: u32,
 ) -> Pen
-    requires { (count ≤ 62) × (k ≤ 62) × (k ≤ length regs.now) × ((i : ℕ) → i < count → place_at map.now (pool_at ws.now (at + i)) + 62 < 4294967296) }
-    ensures { (l : List ℕ) → Lowers (λ q. shuffle registers map.now k (list_at ws.now at count) (emit_all (list.map word (pushes_of (take k regs.now))) q)) ops.old spans.old l p ops.new spans.new l result }
+    requires { (count ≤ 62) × (length regs.now ≤ 62) × ((i : ℕ) → i < count → place_at map.now (pool_at ws.now (at + i)) + 62 < 4294967296) }
+    ensures { (l : List ℕ) → Lowers (λ q. shuffle registers map.now (length regs.now) (list_at ws.now at count) (emit_all (list.map word (pushes_of regs.now)) q)) ops.old spans.old l p ops.new spans.new l result }
 {
-    let pushed = packs::put_pushes(ops, spans, p, regs, k);
-    put_shuffle(ops, spans, pushed, ws, map, k as u32, at, count)
+    let pushed = packs::put_pushes(ops, spans, p, regs);
+    put_shuffle(ops, spans, pushed, ws, map, regs.len() as u32, at, count)
 }
 
 // The result out of register 0, the pops, and the store of a result whose place is a slot.
-fn put_after(ops: &mut [u64], spans: &mut [u32], p: Pen, regs: &[u8], k: usize, dst: u32) -> Pen
-    requires { k ≤ length regs.now }
-    ensures { (l : List ℕ) → Lowers (λ q. stored registers dst (emit_all (list.map word (pops_of (reverse (take k regs.now)))) (emit (word (mov (dest_reg registers dst) 0)) q))) ops.old spans.old l p ops.new spans.new l result }
+fn put_after(ops: &mut [u64], spans: &mut [u32], p: Pen, regs: &[u8], dst: u32) -> Pen
+    ensures { (l : List ℕ) → Lowers (λ q. stored registers dst (emit_all (list.map word (pops_of (reverse regs.now))) (emit (word (mov (dest_reg registers dst) 0)) q))) ops.old spans.old l p ops.new spans.new l result }
 {
     let moved = base::put(ops, spans, p, op::mov(lower::dest_reg(dst), 0));
-    let popped = packs::put_pops_back(ops, spans, moved, regs, k);
+    let popped = packs::put_pops_back(ops, spans, moved, regs);
     lower::put_store(ops, spans, popped, dst)
-}
-
-// The larger of two counts.
-fn larger(n: u8, m: u8) -> u8
-    ensures { result ≡ max n m }
-{
-    if n < m { m } else { n }
 }
 
 // Pushes of the noted registers below the limit, arguments, the op that calls, result, pops.
@@ -146,11 +133,11 @@ fn put_with(
     requires { (count ≤ 62) × (limit ≤ 62) × ((i : ℕ) → i < count → place_at map.now (pool_at ws.now (at + i)) + 62 < 4294967296) }
     ensures { (l : List ℕ) → Lowers (call_with registers map.now (masked_from noted 0 limit) (list_at ws.now at count) called dst) ops.old spans.old l p ops.new spans.new l result }
 {
-    let mut regs = [0u8; MOST_REGS];
+    let mut regs = [0; MOST_REGS];
     let k = pushes_of(noted, limit, &mut regs);
-    let ready = put_before(ops, spans, p, ws, map, &regs, k, at, count);
+    let ready = put_before(ops, spans, p, ws, map, &regs[..k], at, count);
     let back = base::put(ops, spans, ready, called);
-    put_after(ops, spans, back, &regs, k, dst)
+    put_after(ops, spans, back, &regs[..k], dst)
 }
 
 // Does native code of a kind return a double?
@@ -158,7 +145,7 @@ fn returns_double(kind: u64) -> u8
     requires { kind < 4 }
     ensures { result ≡ kind - native }
 {
-    if kind == 3 { 1 } else { 0 }
+    u8::from(kind == 3)
 }
 
 // The low half of the number of the function of a table word.
@@ -169,6 +156,7 @@ fn number_of(f: u64) -> u32
 }
 
 // The op that calls the function of a table word.
+#[tactic(auto, unfolding(crate::specs::Calls::called_as))]
 pub fn called_as(f: u64) -> u64
     ensures { result ≡ called_as f }
 {
@@ -198,7 +186,7 @@ pub fn put_call(
     ensures { (l : List ℕ) → Lowers (lower_call registers map.now noted (list_at ws.now at count) f dst) ops.old spans.old l p ops.new spans.new l result }
 {
     let called = called_as(f);
-    let limit = larger(place::CALLEE_SAVED, count as u8);
+    let limit = place::CALLEE_SAVED.max(count as u8);
     put_with(ops, spans, p, ws, map, noted, limit, at, count, called, dst)
 }
 
@@ -220,7 +208,7 @@ pub fn put_sys(
     ensures { (l : List ℕ) → Lowers (lower_sys registers map.now noted (list_at ws.now at count) number dst) ops.old spans.old l p ops.new spans.new l result }
 {
     let called = op::sys(number, count as u8);
-    let limit = larger(1, count as u8);
+    let limit = (count as u8).max(1);
     put_with(ops, spans, p, ws, map, noted, limit, at, count, called, dst)
 }
 
@@ -228,7 +216,7 @@ pub fn put_sys(
 fn takes_over(f: u64, count: u32) -> bool
     ensures { result ≡ both (leb count first_kept) (eqb (function_kind f) bytecode) }
 {
-    (count <= 19) & (program::kind_of(f) == 1)
+    count <= 19 && program::kind_of(f) == 1
 }
 
 // A call whose result is returned.

@@ -6,16 +6,14 @@ use mathlib.Core.Path.{◌≡◌, refl, sym, ap, ◌∙◌, subst}
 use native.Mathlib.Omega.{arith}
 use lib.ListN.{length, get_or}
 use lib.Seq.{set_out, get_or-set_same}
+use Rattle.std.specs.Prelude.{Option, Some, None}
 use Rattle.base.proofs.Numbers.{lt?}
+use Rattle.place.specs.declared.Reg.{Reg}
 use Rattle.place.specs.declared.Place.{Place}
 use Rattle.place.specs.declared.Place.TheVariants.{Register}
-use Rattle.place.specs.declared.Found.TheVariants as found
 use Rattle.place.specs.Places.{word_of}
 use Rattle.place.proofs.Places.{found_none}
 use Rattle.alloc.specs.declared.Alloc.{Alloc}
-use Rattle.alloc.specs.declared.Hint.{Hint}
-use Rattle.alloc.specs.declared.Got.{Got}
-use Rattle.alloc.specs.declared.Got.TheVariants as got
 use Rattle.alloc.specs.declared.Taken.{Taken}
 use Rattle.alloc.specs.State.{live}
 use Rattle.alloc.specs.Allocation.{kept_of, expire_of, take_of, enter, new_place, map_entered}
@@ -31,20 +29,20 @@ use Rattle.sharing.proofs.Placing.{word, Has, sits, word-sits, Home, Change, pla
 use Rattle.sharing.proofs.Safe.{Housed, Safe, housed_place}
 
 -- ---- a place that is got has an active entry, even one that ends at once
-entered_in : (end : ℕ) (p : Place) (t : Alloc) → Pending p t → 0 < occurs p (live (enter end t t (got.At p)).state)
+entered_in : (end : ℕ) (p : Place) (t : Alloc) → Pending p t → 0 < occurs p (live (enter end t t (Some p)).state)
 unfolding enter
 entered_in end p t h =
     rw (live-entered (entry end p) t (omega (arith, pending_room (entry end p) t h, h.shape.actives)))
     (omega (arith, occurs-append p (live t) (entry end p ∷ []), occurs_one p (entry end p), same_self p))
 
-enter_in : (end : ℕ) (s t : Alloc) (x : Got) (p : Place) → PendingFor t x → x ≡ got.At p → 0 < occurs p (live (enter end s t x).state)
+enter_in : (end : ℕ) (s t : Alloc) (x : Option Place) (p : Place) → PendingFor t x → x ≡ Some p → 0 < occurs p (live (enter end s t x).state)
 unfolding enter
-enter_in end s t (got.At q) p h e =
+enter_in end s t (Some q) p h e =
     let f : q ≡ p = cc in
-    subst (λ (y : Place). 0 < occurs y (live (enter end s t (got.At q)).state)) f (entered_in end q t h)
-enter_in end s t got.NoSlot p h e = absurd (let z : ◌≡◌ {A = ℕ} 0 1 = cc in omega arith)
+    subst (λ (y : Place). 0 < occurs y (live (enter end s t (Some q)).state)) f (entered_in end q t h)
+enter_in end s t None p h e = absurd (let z : ◌≡◌ {A = ℕ} 0 1 = cc in omega arith)
 
-new_in : (class at end : ℕ) (h : Hint) (pool : List ℕ) (s : Alloc) (p : Place) → Good s → (new_place class at end h pool s).got ≡ got.At p
+new_in : (class at end : ℕ) (h : Option Reg) (pool : List ℕ) (s : Alloc) (p : Place) → Good s → (new_place class at end h pool s).got ≡ Some p
     → 0 < occurs p (live (new_place class at end h pool s).state)
 unfolding new_place
 new_in class at end h pool s p g e =
@@ -52,35 +50,35 @@ new_in class at end h pool s p g e =
     enter_in end s t.state t.got p (take_ok class h pool (expire_of at s) (good_expire at s g)) (sym (new_got class at end h pool s) ∙ e)
 
 -- ---- a word that a placement gave is that of the place got
-record Gave (map : List ℕ) (v : ℕ) (x : Got) : Type 0 where
+record Gave (map : List ℕ) (v : ℕ) (x : Option Place) : Type 0 where
   pub place : Place
-  pub got : x ≡ got.At place
-  pub is : get_or (map_entered map v x) v 0 ≡ word_of (found.At place)
+  pub got : x ≡ Some place
+  pub is : get_or (map_entered map v x) v 0 ≡ word_of (Some place)
 
-gave : (map : List ℕ) (v : ℕ) (x : Got) → get_or map v 0 ≡ 0 → (get_or (map_entered map v x) v 0 ≡ 0 → ⊥) → Gave map v x
+gave : (map : List ℕ) (v : ℕ) (x : Option Place) → get_or map v 0 ≡ 0 → (get_or (map_entered map v x) v 0 ≡ 0 → ⊥) → Gave map v x
 unfolding map_entered
-gave map v (got.At p) z h =
+gave map v (Some p) z h =
     record {
       place = p;
       got = refl;
       is = ⊎_elim
-          (λ (l : v < length map). get_or-set_same map v (word_of (found.At p)) 0 l)
-          (λ (l : length map ≤ v). absurd (h (rw (set_out map v (word_of (found.At p)) l) z)))
+          (λ (l : v < length map). get_or-set_same map v (word_of (Some p)) 0 l)
+          (λ (l : length map ≤ v). absurd (h (rw (set_out map v (word_of (Some p)) l) z)))
           (lt? v (length map));
     }
-gave map v got.NoSlot z h = absurd (h z)
+gave map v None z h = absurd (h z)
 
 -- the place of a value just placed
 record Lives (w : Walk) (v : ℕ) : Type 0 where
   pub place : Place
-  pub is : word w v ≡ word_of (found.At place)
+  pub is : word w v ≡ word_of (Some place)
   pub held : 0 < occurs place (live w.alloc)
 
 placed_lives : (ws pool : List ℕ) (r v : ℕ) (w : Walk) → Good w.alloc → word w v ≡ 0 → Has (place_step ws pool r v w) v → Lives (place_step ws pool r v w) v
 unfolding place_step
 placed_lives ws pool r v w g z =
     let e = found_none (word w v) z in
-    let h : Hint = wish_of w v in
+    let h : Option Reg = wish_of w v in
     let t : Taken = new_place 0 r (end_of ws v) h pool w.alloc in
     rw (place_none w.map v 0 r (end_of ws v) h pool w.alloc e, map_none w.map v 0 r (end_of ws v) h pool w.alloc e)
     (λ (has : get_or (map_entered w.map v t.got) v 0 ≡ 0 → ⊥).

@@ -2,10 +2,10 @@
 use Prim.Native.Nat.{ℕ, ◌≤◌}
 use mathlib.Core.List.{List, [], ◌∷◌}
 use native.Mathlib.Omega.{arith}
+use Rattle.std.specs.Prelude.{Option, Some, None}
 use Rattle.base.proofs.Numbers.{pick-both}
+use Rattle.place.specs.declared.Place.{Place}
 use Rattle.place.specs.declared.Reg.TheVariants.{Gpr}
-use Rattle.place.specs.declared.Found.{Found}
-use Rattle.place.specs.declared.Found.TheVariants as found
 use Rattle.place.specs.Places.{found_of}
 use Rattle.alloc.specs.declared.Alloc.{Alloc}
 use Rattle.alloc.specs.declared.Taken.{Taken}
@@ -15,9 +15,9 @@ use Rattle.assign.specs.Steps.{Step, pin, place, note, hint}
 use Rattle.assign.specs.Walk.{Walk, wish_of, place_step, pin_step, note_step, hint_step, step, run}
 use Rattle.sharing.proofs.Placing.{word, new_made, pin_made}
 
-again_made : (s : Alloc) (f : Found) (new : Taken) → s.made ≤ new.state.made → s.made ≤ (place_again s f new).state.made
-again_made s (found.At p) new h = omega arith
-again_made s found.Nowhere new h = h
+again_made : (s : Alloc) (f : Option Place) (new : Taken) → s.made ≤ new.state.made → s.made ≤ (place_again s f new).state.made
+again_made s (Some p) new h = omega arith
+again_made s None new h = h
 
 module _ (ws pool : List ℕ) where
   place_made : (r v : ℕ) (w : Walk) → w.alloc.made ≤ (place_step ws pool r v w).alloc.made

@@ -1,26 +1,31 @@
 -- How a call ends: what follows where nothing is refused, that the table sends every pc as `sent` does, and the two outcomes.
 use mathlib.Core.Path.{◌≡◌, refl, sym, ap, ◌∙◌}
-use mathlib.Core.Logic.{◌⊎◌, inl, inr}
-use mathlib.Core.Bool.{Bool, true, false, not}
-use mathlib.Core.List.{List, map}
+use mathlib.Core.Logic.{◌≢◌}
+use mathlib.Core.Bool.{Bool, true, false}
+use mathlib.Core.List.{List, map, ◌++◌}
 use Prim.Native.Nat.{ℕ, ◌+◌, ◌≤◌, ◌<◌}
 use native.Mathlib.Omega.{arith}
-use borrow.Author.Tests.{leb-true, le-leb, lt-leb, eq-eqb, ne_eqb}
+use borrow.Author.Tests.{leb-true, le-leb, eq-eqb, ne_eqb}
 use lib.Dec.{leb, eqb}
-use lib.ListN.{length, take, length-map}
+use lib.ListN.{length, take, drop, length-map}
 use lib.Seq.{sets, length-take-le}
+use Rattle.std.specs.Prelude.{Ok, Err}
 use Rattle.base.specs.Choice.{pick}
 use Rattle.base.specs.Limits.{most_of_a_kind}
 use Rattle.base.specs.Buffers.{zero_from}
+use Rattle.base.proofs.Lists.{sets-front}
 use Rattle.base.proofs.Buffers.{zero_from-same}
+use Rattle.refusal.specs.declared.Refusal.{Refusal}
+use Rattle.refusal.specs.declared.Refusal.TheVariants.{BadWord, TooMany, BadShape, DoubleDef, BadInterval, UnknownFunc, BadKey, NoSlot, NoRoom, BadMove, BadTarget, BadReg}
+use Rattle.refusal.specs.Numbers.{number_of}
 use Rattle.op.specs.Words.{word, parts}
 use Rattle.op.specs.Targets.{target_of, aimed}
 use Rattle.program.specs.Functions.{function_kind, function_number, function_at, bytecode}
 use Rattle.compact.specs.Compaction.{holds_pc, kept_ops, sent, resent, restarted, compact_ops, compact_targets, compact_functions}
-use Rattle.compact.specs.Entry.{all_ops, counts_ok, room_ok, ops_within, all_within, starts_within, pcs_ok, refusal, number_for, used_for, outcome, outcome_of}
-use Rattle.compact.specs.Steps.{op_within, start_within, sent_by, resent_by, restarted_by, refused_by, Remap, Stripped}
-use Rattle.compact.specs.declared.Compacted.TheVariants.{Done}
-use Rattle.compact.proofs.Every.{ops_in, targets_in, starts_in, both-pass, passes, fails, every-kept, maps_agree}
+use Rattle.compact.specs.Entry.{all_ops, counts_ok, room_ok, ops_within, all_within, starts_within, pcs_ok, refusal, outcome, outcome_of}
+use Rattle.compact.specs.Steps.{op_within, start_within, sent_by, resent_by, restarted_by, Remap, Stripped}
+use Rattle.compact.proofs.Turns.{strip-part}
+use Rattle.compact.proofs.Every.{ops_in, targets_in, starts_in, both-pass, every-kept, maps_agree}
 
 -- a test that has to pass for the number to be 0
 no_number : (p : Bool) (n k : ℕ) → 0 < k → pick p n k ≡ 0 → (p ≡ true) × (n ≡ 0)
@@ -72,41 +77,6 @@ unrefused used target_count ops spans targets functions work e =
       starts_are_within = h.1;
     }
 
--- what the check of the counts gives the check of the pcs
-pub counts_passed : (used target_count : ℕ) (ops spans targets : List ℕ) {b : Bool} → b ≡ counts_ok used target_count ops spans targets → not b ≡ false
-    → (used ≤ length ops) × (target_count ≤ length targets)
-counts_passed used target_count ops spans targets e f =
-    let n = counted used target_count ops spans targets (passes e f) in
-    (n.0, n.2)
-
--- the five ways that the checks can go, by what each answered
-module _ (used target_count : ℕ) (ops spans targets functions work : List ℕ) where
-  pub refuses_words : {a : Bool} → a ≡ all_ops (take used ops) → not a ≡ true → 1 ≡ refusal used target_count ops spans targets functions work
-  unfolding refusal
-  refuses_words e f = rw (fails e f)
-
-  pub refuses_counts : {a b : Bool} → a ≡ all_ops (take used ops) → not a ≡ false → b ≡ counts_ok used target_count ops spans targets → not b ≡ true
-      → 2 ≡ refusal used target_count ops spans targets functions work
-  unfolding refusal
-  refuses_counts e f g h = rw (passes e f, fails g h)
-
-  pub refuses_room : {a b : Bool} → a ≡ all_ops (take used ops) → not a ≡ false → b ≡ counts_ok used target_count ops spans targets → not b ≡ false
-      → length work ≤ used → 9 ≡ refusal used target_count ops spans targets functions work
-  unfolding refusal
-  refuses_room e f g h l = rw (passes e f, passes g h, lt-leb (used + 1) (length work) (omega arith))
-
-  pub refuses_pcs : {a b d : Bool} → a ≡ all_ops (take used ops) → not a ≡ false → b ≡ counts_ok used target_count ops spans targets → not b ≡ false
-      → used < length work → d ≡ pcs_ok used (take used ops) (take target_count targets) functions → not d ≡ true
-      → 11 ≡ refusal used target_count ops spans targets functions work
-  unfolding refusal
-  refuses_pcs e f g h l p q = rw (passes e f, passes g h, le-leb (used + 1) (length work) (omega arith), fails p q)
-
-  pub refuses_none : {a b d : Bool} → a ≡ all_ops (take used ops) → not a ≡ false → b ≡ counts_ok used target_count ops spans targets → not b ≡ false
-      → used < length work → d ≡ pcs_ok used (take used ops) (take target_count targets) functions → not d ≡ false
-      → 0 ≡ refusal used target_count ops spans targets functions work
-  unfolding refusal
-  refuses_none e f g h l p q = rw (passes e f, passes g h, le-leb (used + 1) (length work) (omega arith), passes p q)
-
 -- and the other way round
 pub nothing-refused : {used target_count : ℕ} {ops spans targets functions work : List ℕ} → Unrefused used target_count ops spans targets functions work
     → refusal used target_count ops spans targets functions work ≡ 0
@@ -153,6 +123,10 @@ module _ {ops work : List ℕ} (r : Remap ops work) where
   pub starts_agree : (fs : List ℕ) → starts_within (length ops) fs ≡ true → map (restarted_by work) fs ≡ map (restarted ops) fs
   starts_agree fs h = maps_agree (starts_in (length ops)) (restarted_by work) (restarted ops) restarted-agrees fs h
 
+-- all of the first n of a list made anew
+front_whole : (n : ℕ) (l xs : List ℕ) → n ≤ length l → length xs ≡ n → xs ++ drop n l ≡ sets l 0 xs
+front_whole n l xs h e = rw (sets-front l xs (omega arith), e)
+
 -- the work room ends zero, whatever it held
 pub zeroed : (work work' : List ℕ) → length work' ≡ length work → zero_from work' 0 ≡ zero_from work 0
 zeroed work work' e = zero_from-same work' work 0 refl e
@@ -160,13 +134,15 @@ zeroed work work' e = zero_from-same work' work 0 refl e
 -- a call that is not refused
 pub ends-done : (used target_count : ℕ) (ops spans targets functions work : List ℕ) (left : ℕ) (ops' spans' targets' functions' work' work'' : List ℕ)
     → refusal used target_count ops spans targets functions work ≡ 0 → length work' ≡ length work → Remap (take used ops) work'
-    → Stripped work' used ops spans left ops' spans' → targets' ≡ sets targets 0 (map (sent_by work') (take target_count targets))
-    → functions' ≡ map (restarted_by work') functions → work'' ≡ zero_from work' 0
-    → outcome (Done left) ops' spans' targets' functions' work'' ≡ outcome_of used target_count ops spans targets functions work
+    → Stripped work' (length (take used ops)) (take used ops) (take used spans) left ops' spans'
+    → targets' ≡ map (sent_by work') (take target_count targets) → functions' ≡ map (restarted_by work') functions → work'' ≡ zero_from work' 0
+    → outcome (Ok left) (ops' ++ drop used ops) (spans' ++ drop used spans) (targets' ++ drop target_count targets) functions' work''
+    ≡ outcome_of used target_count ops spans targets functions work
 unfolding outcome_of compact_ops compact_targets compact_functions
-ends-done used target_count ops spans targets functions work left ops' spans' targets' functions' work' work'' e l r s t f w =
+ends-done used target_count ops spans targets functions work left ops' spans' targets' functions' work' work'' e l r part t f w =
     let u = unrefused used target_count ops spans targets functions work e in
     let n : length (take used ops) ≡ used = length-take-le used ops u.in_ops in
+    let s = strip-part u.in_ops u.in_spans part in
     let a : map (resent_by work') (kept_ops (take used ops)) ≡ map (resent (take used ops)) (kept_ops (take used ops))
     = ops_agree r (take used ops) (rw n u.ops_are_within) in
     let b : map (sent_by work') (take target_count targets) ≡ map (sent (take used ops)) (take target_count targets)
@@ -174,29 +150,33 @@ ends-done used target_count ops spans targets functions work left ops' spans' ta
     let d : map (restarted_by work') functions ≡ map (restarted (take used ops)) functions = starts_agree r functions (rw n u.starts_are_within) in
     let m : left ≡ length (map (resent (take used ops)) (kept_ops (take used ops)))
     = s.next_is ∙ sym (length-map (kept_ops (take used ops)) (resent (take used ops))) in
-    let o : ops' ≡ sets ops 0 (map (resent (take used ops)) (kept_ops (take used ops))) = s.ops_is ∙ ap (sets ops 0) a in
+    let o : ops' ++ drop used ops ≡ sets ops 0 (map (resent (take used ops)) (kept_ops (take used ops))) = s.ops_is ∙ ap (sets ops 0) a in
+    let g : targets' ++ drop target_count targets ≡ sets targets 0 (map (sent (take used ops)) (take target_count targets))
+    = rw (t, b) (front_whole target_count targets (map (sent (take used ops)) (take target_count targets)) u.in_targets
+    (length-map (take target_count targets) (sent (take used ops)) ∙ length-take-le target_count targets u.in_targets)) in
     let v : work'' ≡ zero_from work 0 = w ∙ zeroed work work' l in
-    rw (eq-eqb (refusal used target_count ops spans targets functions work) 0 e, m, o, s.spans_is, t, b, f, d, v)
+    rw (eq-eqb (refusal used target_count ops spans targets functions work) 0 e, m, o, s.spans_is, g, f, d, v)
 
--- a number that is one of the refusals'
-number_of : (number : ℕ) → (number ≡ 1) ⊎ ((number ≡ 2) ⊎ ((number ≡ 9) ⊎ (number ≡ 11))) → (number_for (refused_by number) ≡ number) × (used_for (refused_by number) ≡ 0)
-number_of number (inl e) = rw e (refl, refl)
-number_of number (inr (inl e)) = rw e (refl, refl)
-number_of number (inr (inr (inl e))) = rw e (refl, refl)
-number_of number (inr (inr (inr e))) = rw e (refl, refl)
-
-which : (p q r s : Bool) (n : ℕ) → n ≡ pick p (pick q (pick r (pick s 0 11) 9) 2) 1 → (n ≡ 0 → ⊥) → (n ≡ 1) ⊎ ((n ≡ 2) ⊎ ((n ≡ 9) ⊎ (n ≡ 11)))
-which false q r s n e h = inl e
-which true false r s n e h = inr (inl e)
-which true true false s n e h = inr (inr (inl e))
-which true true true false n e h = inr (inr (inr e))
-which true true true true n e h = absurd (h e)
+-- a refusal has a number, and none is 0
+numbered : (why : Refusal) → number_of why ≢ 0
+numbered why = elim why as (λ r. number_of r ≢ 0) [
+  | BadWord ↦ λ e. omega arith
+  | TooMany ↦ λ e. omega arith
+  | BadShape ↦ λ e. omega arith
+  | DoubleDef ↦ λ e. omega arith
+  | BadInterval ↦ λ e. omega arith
+  | UnknownFunc ↦ λ e. omega arith
+  | BadKey ↦ λ e. omega arith
+  | NoSlot ↦ λ e. omega arith
+  | NoRoom ↦ λ e. omega arith
+  | BadMove ↦ λ e. omega arith
+  | BadTarget ↦ λ e. omega arith
+  | BadReg ↦ λ e. omega arith
+]
 
 -- a refused call
-pub ends-refused : (used target_count : ℕ) (ops spans targets functions work work' : List ℕ) (number : ℕ) → number ≡ refusal used target_count ops spans targets functions work
-    → (number ≡ 0 → ⊥) → work' ≡ zero_from work 0
-    → outcome (refused_by number) ops spans targets functions work' ≡ outcome_of used target_count ops spans targets functions work
-unfolding outcome_of refusal
-ends-refused used target_count ops spans targets functions work work' number e h w =
-    let k = number_of number (which (all_ops (take used ops)) (counts_ok used target_count ops spans targets) (room_ok used work) (pcs_ok used (take used ops) (take target_count targets) functions) number e h) in
-    rw (← e, ne_eqb number 0 h, k.0, k.1, w)
+pub ends-refused : (used target_count : ℕ) (ops spans targets functions work work' : List ℕ) (why : Refusal)
+    → number_of why ≡ refusal used target_count ops spans targets functions work → work' ≡ zero_from work 0
+    → outcome (Err why) ops spans targets functions work' ≡ outcome_of used target_count ops spans targets functions work
+unfolding outcome_of
+ends-refused used target_count ops spans targets functions work work' why e w = rw (← e, ne_eqb (number_of why) 0 (numbered why), w)

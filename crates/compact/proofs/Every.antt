@@ -1,12 +1,12 @@
 -- A test that each number of a list has to pass, as `all_ops`, `ops_within`, `all_within` and `starts_within` ask.
-use mathlib.Core.Path.{◌≡◌, refl, sym, ap, ◌∙◌}
-use mathlib.Core.Bool.{Bool, true, false, not}
+use mathlib.Core.Path.{◌≡◌, refl, sym, ◌∙◌}
+use mathlib.Core.Bool.{Bool, true, false, not, ◌&&◌}
 use mathlib.Core.List.{List, [], ◌∷◌, map}
 use Prim.Native.Nat.{ℕ, zero, suc, ◌<◌}
 use native.Mathlib.Omega.{arith}
-use borrow.Author.Tests.{not-true, not-false}
 use lib.Dec.{leb}
 use lib.ListN.{length, get_or}
+use Rattle.std.specs.List.{list_all}
 use Rattle.base.specs.Choice.{pick}
 use Rattle.op.specs.Words.{parts, allowed}
 use Rattle.compact.specs.Compaction.{is_nop, kept_ops}
@@ -59,27 +59,14 @@ pub both-pass : (p q : Bool) → pick p q false ≡ true → (p ≡ true) × (q 
 both-pass true q e = (refl, e)
 both-pass false q e = absurd (not-both (sym e))
 
--- what a function's answer says of the test that it made, where the code asks for the opposite
-pub passes : {r t : Bool} → r ≡ t → not r ≡ false → t ≡ true
-passes {r} e h = sym e ∙ not-false r h
-
-pub fails : {r t : Bool} → r ≡ t → not r ≡ true → t ≡ false
-fails {r} e h = sym e ∙ not-true r h
-
 module _ {f : List ℕ → Bool} {t : ℕ → Bool} (e : Every f t) where
-  -- a turn of a loop that tests: the next one passes, fails, or is not there
-  pub every_goes : {xs rest : List ℕ} {x : ℕ} {whole : Bool} → xs ≡ x ∷ rest → t x ≡ true → f xs ≡ whole → f rest ≡ whole
-  every_goes {xs} {rest} {x} {whole} s p h =
-      let g : f (x ∷ rest) ≡ f rest = rw (e.one x rest, p) in
-      sym g ∙ sym (ap f s) ∙ h
-
-  pub every_fails : {xs rest : List ℕ} {x : ℕ} {whole : Bool} → xs ≡ x ∷ rest → t x ≡ false → f xs ≡ whole → false ≡ whole
-  every_fails {xs} {rest} {x} {whole} s p h =
-      let g : f (x ∷ rest) ≡ false = rw (e.one x rest, p) in
-      sym g ∙ sym (ap f s) ∙ h
-
-  pub every-ends : {xs : List ℕ} {whole : Bool} → xs ≡ [] → f xs ≡ whole → true ≡ whole
-  every-ends {xs} {whole} s h = sym e.none ∙ sym (ap f s) ∙ h
+  -- the library's word for it
+  pub every_is : (xs : List ℕ) → list_all t xs ≡ f xs
+  every_is [] = sym e.none
+  every_is (x ∷ xs) = rw (e.one x xs, every_is xs) (go (t x)) where
+    go : (p : Bool) → (p && f xs) ≡ pick p (f xs) false
+    go true = refl
+    go false = refl
 
   -- the first and the rest
   pub every-parts : (x : ℕ) (xs : List ℕ) → f (x ∷ xs) ≡ true → (t x ≡ true) × (f xs ≡ true)
@@ -123,3 +110,6 @@ module _ {f : List ℕ → Bool} {t : ℕ → Bool} (e : Every f t) where
   every_map {f'} {t'} e' g a (x ∷ xs) p =
       let q = every-parts x xs p in
       rw (e'.one (g x) (map g xs), a x q.0) (every_map e' g a xs q.1)
+
+pub words_are : (xs : List ℕ) → list_all is_op xs ≡ all_ops xs
+words_are xs = every_is words xs

@@ -1,47 +1,18 @@
 -- What one turn of each loop does, and what its end gives.
 use mathlib.Core.Path.{◌≡◌, refl, sym, ap, ◌∙◌}
-use mathlib.Core.Bool.{Bool, true, false, ◌&&◌, ◌||◌}
-use mathlib.Core.List.{List, [], ◌∷◌, ◌++◌, map, map-append, append-nil}
+use mathlib.Core.Bool.{Bool, true, false}
+use mathlib.Core.List.{List, [], ◌∷◌, ◌++◌, map, map-append, append-nil, append_assoc}
 use Prim.Native.Nat.{ℕ, ◌+◌, ◌≤◌, ◌<◌}
 use native.Mathlib.Numerals.{add-one}
 use native.Mathlib.Omega.{arith}
 use borrow.Author.Count.{below_more}
-use lib.ListN.{length, get_or, take, drop, set, length-append, length-take, drop_of_length-le, length-map}
-use lib.Seq.{sets, drop-cons, get_or-take, get_or-set_same, get_or-set_other, take-suc, take_all, drop-length, length-sets, length-take-le}
+use lib.ListN.{length, get_or, take, drop, set, length-append, length-take, length-map, take-append-drop}
+use lib.Seq.{sets, drop-append-le, get_or-set_same, get_or-set_other, take-suc, take_all, drop-length, length-sets, length-take-le}
 use Rattle.base.specs.Choice.{pick}
 use Rattle.base.proofs.Lists.{sets-append, sets-front, get_or-sets-after}
 use Rattle.compact.specs.Compaction.{is_nop, kept_ops, kept_spans, sent}
 use Rattle.compact.specs.Steps.{resent_by, Remap, Down, Stripped}
 use Rattle.compact.proofs.Sending.{kept_le, kept-turn, spans_turn, spans_length, sent-turn}
-
--- tests joined by `&` or `|` are choices in a row
-pub either : (p q : Bool) → (p || q) ≡ pick p true q
-either true q = refl
-either false q = refl
-
-pub all_three : (p q r : Bool) → ((p && q) && r) ≡ pick p (pick q r false) false
-all_three false q r = refl
-all_three true false r = refl
-all_three true true r = refl
-
-pub all_four : (p q r s : Bool) → (((p && q) && r) && s) ≡ pick p (pick q (pick r s false) false) false
-all_four false q r s = refl
-all_four true false r s = refl
-all_four true true false s = refl
-all_four true true true s = refl
-
--- what is left of the first n from i on, as far as the list goes
-pub peel_there : (n i : ℕ) (l : List ℕ) → i < n → i < length l → drop i (take n l) ≡ get_or l i 0 ∷ drop (i + 1) (take n l)
-peel_there n i l h k =
-    let e : i < length (take n l) = simp length-take (omega arith) in
-    drop-cons (take n l) i 0 e ∙ rw (add-one i, get_or-take n l i 0 h)
-
-pub past_there : (n i : ℕ) (l : List ℕ) → length l ≤ i → drop i (take n l) ≡ []
-past_there n i l h = drop_of_length-le (take n l) {i = i} (simp length-take (omega arith))
-
--- what is left of a whole list from i on
-pub peel_whole : (i : ℕ) (l : List ℕ) → i < length l → drop i l ≡ get_or l i 0 ∷ drop (i + 1) l
-peel_whole i l h = drop-cons l i 0 h ∙ rw (add-one i)
 
 -- in a map of the first i, what stands at i goes behind
 pub map-turn : (f : ℕ → ℕ) (l : List ℕ) (i : ℕ) → i < length l
@@ -78,20 +49,16 @@ remap-turn ops work pc next h e f =
     (get_or-set_same work pc next 0 h ∙ e)
 
 -- where the next pc is sent
-pub next-turn : (ops : List ℕ) (used pc next step : ℕ) → pc < used → used ≤ length ops → next ≡ sent (take used ops) pc
-    → step ≡ pick (is_nop (get_or ops pc 0)) 0 1 → next + step ≡ sent (take used ops) (pc + 1)
-next-turn ops used pc next step h k e f =
-    let l : length (take used ops) ≡ used = length-take-le used ops k in
-    let d : pc < length (take used ops) = omega arith in
-    rw (sent-turn (take used ops) pc d, get_or-take used ops pc 0 h, e, f)
+pub next-turn : (ops : List ℕ) (pc next step : ℕ) → pc < length ops → next ≡ sent ops pc → step ≡ pick (is_nop (get_or ops pc 0)) 0 1
+    → next + step ≡ sent ops (pc + 1)
+next-turn ops pc next step h e f = rw (sent-turn ops pc h, e, f)
 
 -- the end of the remap: where the end is sent
-pub remap-end : (ops work : List ℕ) (used pc next : ℕ) → used ≤ length ops → used < length work → pc ≡ used → next ≡ sent (take used ops) pc
-    → ((k : ℕ) → k < pc → get_or work k 0 ≡ sent (take used ops) k) → Remap (take used ops) (set work used next)
-remap-end ops work used pc next h k e d f =
-    let l : length (take used ops) ≡ used = length-take-le used ops h in
+pub remap-end : (ops work : List ℕ) (pc next : ℕ) → length ops < length work → pc ≡ length ops → next ≡ sent ops pc
+    → ((k : ℕ) → k < pc → get_or work k 0 ≡ sent ops k) → Remap ops (set work (length ops) next)
+remap-end ops work pc next k e d f =
     record {
-      has = λ n lt. remap-turn (take used ops) work used next k (d ∙ ap (sent (take used ops)) e) (λ m q. f m (omega arith)) n (omega arith);
+      has = λ n lt. remap-turn ops work (length ops) next k (d ∙ ap (sent ops) e) (λ m q. f m (omega arith)) n (omega arith);
     }
 
 -- one that stays goes behind the ones that stayed
@@ -150,4 +117,32 @@ strip-turn {work} {r} {ops} {spans} {w'} {ops'} {spans'} {w''} {ops''} {spans''}
           (one_down (is_nop (get_or ops r 0)) ops (map (resent_by work) ks) w' (resent_by work (get_or ops r 0)) wm);
       spans_is = d.spans_is ∙ rw (x, y, spans_turn ops spans r h k, s.spans_is)
           (one_down (is_nop (get_or ops r 0)) spans ss w' (get_or spans r 0) ws);
+    }
+
+-- what is stored in the first n of a list is stored in the list
+pub sets-part : (n : ℕ) (l xs : List ℕ) → n ≤ length l → length xs ≤ n → sets (take n l) 0 xs ++ drop n l ≡ sets l 0 xs
+sets-part n l xs h k =
+    let e : length (take n l) ≡ n = length-take-le n l h in
+    let a : sets (take n l) 0 xs ≡ xs ++ drop (length xs) (take n l) = sets-front (take n l) xs (omega arith) in
+    let b : sets l 0 xs ≡ xs ++ drop (length xs) l = sets-front l xs (omega arith) in
+    let d : drop (length xs) (take n l) ++ drop n l ≡ drop (length xs) l
+    = sym (drop-append-le (length xs) (take n l) (drop n l) (omega arith)) ∙ ap (drop (length xs)) (take-append-drop n l) in
+    rw (a, b, append_assoc, d)
+
+-- the strip of the first parts is the strip of the first so many
+pub strip-part : {work : List ℕ} {used : ℕ} {ops spans : List ℕ} {w : ℕ} {ops' spans' : List ℕ} → used ≤ length ops → used ≤ length spans
+    → Stripped work (length (take used ops)) (take used ops) (take used spans) w ops' spans'
+    → Stripped work used ops spans w (ops' ++ drop used ops) (spans' ++ drop used spans)
+strip-part {work} {used} {ops} {spans} {w} {ops'} {spans'} h k s =
+    let n : length (take used ops) ≡ used = length-take-le used ops h in
+    let m : length (take used spans) ≡ used = length-take-le used spans k in
+    let o : take (length (take used ops)) (take used ops) ≡ take used ops = take_all _ (take used ops) (omega arith) in
+    let p : take (length (take used ops)) (take used spans) ≡ take used spans = take_all _ (take used spans) (omega arith) in
+    let lm : length (map (resent_by work) (kept_ops (take used ops))) ≡ length (kept_ops (take used ops)) = length-map (kept_ops (take used ops)) (resent_by work) in
+    let ls : length (kept_spans (take used ops) (take used spans)) ≡ length (kept_ops (take used ops)) = spans_length (take used ops) (take used spans) (omega arith) in
+    let le : length (kept_ops (take used ops)) ≤ used = omega (arith, kept_le (take used ops)) in
+    record {
+      next_is = rw o at s.next_is;
+      ops_is = rw (s.ops_is, o) (sets-part used ops (map (resent_by work) (kept_ops (take used ops))) h (omega arith));
+      spans_is = rw (s.spans_is, o, p) (sets-part used spans (kept_spans (take used ops) (take used spans)) k (omega arith));
     }

@@ -1,30 +1,23 @@
 -- The entry: what it answers, and what the lent buffers hold afterwards.
-use Rattle.std.specs.Prelude.{ℕ, ◌+◌, Bool, true, false, List, [], ◌∷◌, leb, eqb, length, take}
+use Rattle.std.specs.Prelude.{ℕ, ◌+◌, Bool, true, false, List, [], ◌∷◌, Result, Ok, Err, leb, eqb, length, take}
 use Rattle.std.proofs.lemmas.List.Edits.{sets}
 use Rattle.base.specs.Choice.{pick}
 use Rattle.base.specs.Limits.{most_of_a_kind}
 use Rattle.base.specs.Buffers.{zero_from}
+use Rattle.refusal.specs.declared.Refusal.{Refusal}
+use Rattle.refusal.specs.Numbers as numbers
 use Rattle.op.specs.Words.{parts, allowed}
 use Rattle.op.specs.Targets.{target_of}
 use Rattle.program.specs.Functions.{function_kind, function_number, bytecode}
 use Rattle.compact.specs.Compaction.{holds_pc, kept_spans, compact_ops, compact_targets, compact_functions}
-use Rattle.compact.specs.declared.Compacted.{Compacted}
-use Rattle.compact.specs.declared.Compacted.TheVariants.{Done, BadWord, TooMany, NoRoom, BadTarget}
 
 -- document 01's number of each answer, and the new used length
-abbrev pub number_for : Compacted → ℕ
-number_for (Done used) = 0
-number_for BadWord = 1
-number_for TooMany = 2
-number_for NoRoom = 9
-number_for BadTarget = 11
+abbrev pub number_for : Result ℕ Refusal → ℕ
+number_for answer = numbers.number_for answer
 
-abbrev pub used_for : Compacted → ℕ
-used_for (Done used) = used
-used_for BadWord = 0
-used_for TooMany = 0
-used_for NoRoom = 0
-used_for BadTarget = 0
+abbrev pub used_for : Result ℕ Refusal → ℕ
+used_for (Ok used) = used
+used_for (Err why) = 0
 
 -- 1: a word that is no op
 abbrev pub all_ops : List ℕ → Bool
@@ -79,7 +72,7 @@ pub record Outcome : Type 0 where
   pub functions : List ℕ
   pub work : List ℕ
 
-abbrev pub outcome : Compacted → List ℕ → List ℕ → List ℕ → List ℕ → List ℕ → Outcome
+abbrev pub outcome : Result ℕ Refusal → List ℕ → List ℕ → List ℕ → List ℕ → List ℕ → Outcome
 outcome answer ops spans targets functions work =
     record { number = number_for answer; used = used_for answer; ops = ops; spans = spans; targets = targets; functions = functions; work = work }
 

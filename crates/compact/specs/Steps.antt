@@ -5,14 +5,7 @@ use Rattle.base.specs.Choice.{pick}
 use Rattle.op.specs.Words.{word, parts}
 use Rattle.op.specs.Targets.{target_of, aimed}
 use Rattle.program.specs.Functions.{function_kind, function_number, function_at, bytecode}
-use Rattle.compact.specs.declared.Compacted.{Compacted}
-use Rattle.compact.specs.declared.Compacted.TheVariants.{BadWord, TooMany, NoRoom, BadTarget}
 use Rattle.compact.specs.Compaction.{is_nop, holds_pc, kept_ops, kept_spans, sent}
-
--- the refusal of a number
-abbrev pub refused_by : ℕ → Compacted
-refused_by number =
-    pick (eqb number 1) BadWord (pick (eqb number 2) TooMany (pick (eqb number 9) NoRoom BadTarget))
 
 -- a word, or a word of the function table, holds no pc beyond the op count
 abbrev pub op_within : ℕ → ℕ → Bool

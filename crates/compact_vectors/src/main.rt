@@ -5,10 +5,11 @@
 // Then programs that are refused, one line each with document 01's number.
 #![tactic(auto)]
 
-ghost use Rattle.std.specs.Prelude.{◌≡◌, ◌+◌, ◌*◌, ◌≤◌, ◌<◌, length};
+ghost use Rattle.std.specs.Prelude.{◌≡◌, ◌*◌, ◌≤◌, length};
 ghost use Rattle.compact.specs.Entry.{number_for, used_for};
 
-use compact::Compacted;
+use records::CutShort;
+use refusal::Refusal;
 
 // The word of a text where each list of a program starts, and where the last one ends: 65536 ops and spans, 8192 entries of switch tables, and 64
 // words of the function table.
@@ -22,13 +23,15 @@ const FUNCTIONS_AT: usize = 204800;
 
 const END: usize = 204928;
 
-// How much there is of each kind in a program, and whether all of it is in the text.
+// How many bytes that is.
+const TEXT: usize = 819712;
+
+// How much there is of each kind in a program.
 #[derive(Clone, Copy)]
 struct Program {
     ops: u32,
     entries: u32,
     functions: u32,
-    whole: bool,
 }
 
 // How much of each buffer is lent to a call, and the used lengths.
@@ -50,57 +53,45 @@ struct Answer {
     used: usize,
 }
 
-// What came of a program: how many ops it has, whether all is as the Rust has it, and whether it was there.
+// What came of a program: how many ops it has, and whether all is as the Rust has it.
 #[derive(Clone, Copy)]
 struct Replayed {
     ops: u32,
     ok: bool,
-    whole: bool,
 }
 
-// The next n words of the file, to the text's from word `at` on: are they there, and is there room for them before word `end`?
-fn next_words(text: &mut [u8], at: usize, end: usize, n: usize) -> bool
+// The next n bytes of the file, to the text's from word `at` on, where there is room for them before word `end`.
+fn next_list(text: &mut [u8], at: usize, end: usize, n: usize) -> Result<(), CutShort>
     requires { (at ≤ end) × (4 * end ≤ length text.old) }
 {
-    if end - at < n {
-        return false;
-    }
-    replay::next_bytes(&mut text[4 * at..4 * (at + n)])
+    records::next_bytes(&mut text[4 * at..4 * end], n)
 }
 
 // The next program of the file. Behind each of its lists the text stays as it was.
-fn next_program(text: &mut [u8]) -> Program
+fn next_program(text: &mut [u8]) -> Result<Program, CutShort>
     requires { 819712 ≤ length text.old }
 {
     let ops = replay::next_word();
-    let n = ops as usize;
-    let code = next_words(text, OPS_AT, SPANS_AT, 2 * n);
-    let spans = next_words(text, SPANS_AT, ENTRIES_AT, n);
+    next_list(text, OPS_AT, SPANS_AT, 8 * ops as usize)?;
+    next_list(text, SPANS_AT, ENTRIES_AT, 4 * ops as usize)?;
     let entries = replay::next_word();
-    let slots = next_words(text, ENTRIES_AT, FUNCTIONS_AT, entries as usize);
+    next_list(text, ENTRIES_AT, FUNCTIONS_AT, 4 * entries as usize)?;
     let functions = replay::next_word();
-    let table = next_words(text, FUNCTIONS_AT, END, 2 * functions as usize);
-    Program {
-        ops: ops,
-        entries: entries,
-        functions: functions,
-        whole: code & spans & slots & table,
-    }
+    next_list(text, FUNCTIONS_AT, END, 8 * functions as usize)?;
+    Ok(Program {
+        ops,
+        entries,
+        functions,
+    })
 }
 
-fn answer_of(c: Compacted) -> Answer
+fn answer_of(c: Result<usize, Refusal>) -> Answer
     ensures { (result.number ≡ number_for c) × (result.used ≡ used_for c) }
 {
     match c {
-        Compacted::Done(used) => Answer {
-            number: 0,
-            used: used,
-        },
-        Compacted::BadWord => Answer { number: 1, used: 0 },
-        Compacted::TooMany => Answer { number: 2, used: 0 },
-        Compacted::NoRoom => Answer { number: 9, used: 0 },
-        Compacted::BadTarget => Answer {
-            number: 11,
+        Ok(used) => Answer { number: 0, used },
+        Err(why) => Answer {
+            number: u32::from(why.number()),
             used: 0,
         },
     }
@@ -115,11 +106,11 @@ fn compact_parts(
     work: &mut [u32],
     l: Lent,
 ) -> Answer {
-    let n = replay::least(l.ops, ops.len());
-    let s = replay::least(l.spans, spans.len());
-    let e = replay::least(l.entries, entries.len());
-    let f = replay::least(l.functions, functions.len());
-    let w = replay::least(l.room, work.len());
+    let n = l.ops.min(ops.len());
+    let s = l.spans.min(spans.len());
+    let e = l.entries.min(entries.len());
+    let f = l.functions.min(functions.len());
+    let w = l.room.min(work.len());
     answer_of(compact::compact(
         &mut ops[..n],
         &mut spans[..s],
@@ -140,24 +131,24 @@ fn same_as(
     entries: &[u32],
     functions: &[u64],
 ) -> bool {
-    replay::right64(text, OPS_AT, l.ops, 0, ops, l.ops)
-        & replay::right32(text, SPANS_AT, l.spans, 0, spans, l.spans)
-        & replay::right32(text, ENTRIES_AT, l.entries, 0, entries, l.entries)
-        & replay::right64(text, FUNCTIONS_AT, l.functions, 0, functions, l.functions)
+    replay::right(text, OPS_AT, l.ops, 0, ops, l.ops)
+        & replay::right(text, SPANS_AT, l.spans, 0, spans, l.spans)
+        & replay::right(text, ENTRIES_AT, l.entries, 0, entries, l.entries)
+        & replay::right(text, FUNCTIONS_AT, l.functions, 0, functions, l.functions)
 }
 
-// The program of one text compacted, with a work room that nobody cleared. The number is 255 where the other text is not what is left, or the
-// work room is not zero.
-fn compacted(from: &[u8], l: Lent, to: &[u8]) -> Answer {
-    let mut ops = no_ops();
-    let mut spans = no_words();
-    let mut entries = no_words();
+// The program of one text compacted, with a work room that nobody cleared; nothing where the other text is not what is left, or the work room is not
+// zero.
+fn compacted(from: &[u8], l: Lent, to: &[u8]) -> Option<Answer> {
+    let mut ops = records::filled::<u64, 65536>(0);
+    let mut spans = records::filled::<u32, 65536>(0);
+    let mut entries = records::filled::<u32, 65536>(0);
     let mut functions = [0u64; 64];
-    let mut work = littered();
-    replay::load64(from, OPS_AT, &mut ops, l.ops);
-    replay::load32(from, SPANS_AT, &mut spans, l.spans);
-    replay::load32(from, ENTRIES_AT, &mut entries, l.entries);
-    replay::load64(from, FUNCTIONS_AT, &mut functions, l.functions);
+    let mut work = records::filled::<u32, 65536>(7);
+    replay::load(from, OPS_AT, &mut ops, l.ops);
+    replay::load(from, SPANS_AT, &mut spans, l.spans);
+    replay::load(from, ENTRIES_AT, &mut entries, l.entries);
+    replay::load(from, FUNCTIONS_AT, &mut functions, l.functions);
     let answer = compact_parts(
         &mut ops,
         &mut spans,
@@ -167,14 +158,7 @@ fn compacted(from: &[u8], l: Lent, to: &[u8]) -> Answer {
         l,
     );
     let left = same_as(to, l, &ops, &spans, &entries, &functions);
-    if left & replay::zeros32(&work, l.room) {
-        answer
-    } else {
-        Answer {
-            number: 255,
-            used: 0,
-        }
-    }
+    (left & replay::zeros(&work, l.room)).then_some(answer)
 }
 
 // The buffers that a program fills exactly, all of it used.
@@ -182,10 +166,10 @@ fn lent_for(p: Program) -> Lent {
     let ops = p.ops as usize;
     let entries = p.entries as usize;
     Lent {
-        ops: ops,
+        ops,
         spans: ops,
         used: ops,
-        entries: entries,
+        entries,
         entries_used: entries,
         functions: p.functions as usize,
         room: ops + 1,
@@ -193,93 +177,51 @@ fn lent_for(p: Program) -> Lent {
 }
 
 // Is it Done, with so many ops left?
-fn is_done(a: Answer, used: usize) -> bool {
-    (a.number == 0) & (a.used == used)
+fn is_done(answer: Option<Answer>, used: usize) -> bool {
+    answer.is_some_and(|a| (a.number == 0) & (a.used == used))
 }
 
 // The program of one text compacted, and once more where that left it; what the other text has should be left by both.
 fn both_right(text: &[u8], l: Lent, left: &[u8], used: usize) -> bool {
     let first = is_done(compacted(text, l, left), used);
-    let mut shorter = l;
-    shorter.used = used;
     // Where the first call was refused, the program is there still.
-    let again = if first {
-        compacted(left, shorter, left)
-    } else {
-        compacted(text, shorter, left)
-    };
-    first & is_done(again, used)
+    let from = if first { left } else { text };
+    first & is_done(compacted(from, Lent { used, ..l }, left), used)
 }
 
 // The next program of the file.
-fn replay_program() -> Replayed {
-    let mut text = no_text();
-    let before = next_program(&mut text);
+fn replay_program() -> Result<Replayed, CutShort> {
+    let mut text = records::filled::<u8, TEXT>(0);
+    let before = next_program(&mut text)?;
     // What should be left: the program as it is after, and behind its ops those that were.
     let mut left = text;
-    let after = next_program(&mut left);
-    let whole = before.whole & after.whole;
+    let after = next_program(&mut left)?;
     let tables = (before.entries == after.entries) & (before.functions == after.functions);
-    let mut ok = whole & tables;
-    if ok {
-        ok = both_right(&text, lent_for(before), &left, after.ops as usize);
-    }
-    Replayed {
+    Ok(Replayed {
         ops: before.ops,
-        ok: ok,
-        whole: whole,
-    }
-}
-
-// A number, and what it counts.
-fn figure(n: usize, text: &[u8]) {
-    replay::number(n);
-    replay::write(text);
-}
-
-// How many programs differ, program i among them; the first that differs is named.
-fn with_program(differ: u32, i: u32, ok: bool) -> u32
-    requires { (differ ≤ i) × (i < 4294967295) }
-    ensures { result ≤ i + 1 }
-{
-    if ok {
-        return differ;
-    }
-    if differ == 0 {
-        replay::write(b"program ");
-        figure(i as usize, b" differs\n");
-    }
-    differ + 1
-}
-
-fn report(programs: u32, ops: usize, differ: u32) {
-    figure(programs as usize, b" programs, ");
-    figure(ops, b" ops, ");
-    figure(differ as usize, b" differ\n");
+        ok: tables && both_right(&text, lent_for(before), &left, after.ops as usize),
+    })
 }
 
 // All programs: how many, how many ops they have, how many differ.
-fn replay_all() {
+fn replay_all() -> Result<(), CutShort> {
     let programs = replay::next_word();
-    let mut done = 0;
     let mut total = 0;
     let mut differ = 0;
-    while done < programs {
-        let r = replay_program();
-        if !r.whole {
-            replay::write(b"the file is cut short\n");
-            return;
-        }
-        differ = with_program(differ, done, r.ok);
+    for i in 0..programs {
+        let r = replay_program()?;
+        differ = records::counted(b"program ", differ, i, r.ok);
         total = (total + r.ops as usize) % 1000000000;
-        done += 1;
     }
-    report(done, total, differ);
+    records::figure(programs as usize, b" programs, ");
+    records::figure(total, b" ops, ");
+    records::figure(differ as usize, b" differ\n");
+    Ok(())
 }
 
-// The end of a line, the number of a refusal; 255 where the call changed something, or left a word in the work room.
-fn end_line(number: u32, kept: bool) {
-    figure(if kept { number as usize } else { 255 }, b"\n");
+// The end of a line, the number of a refusal; 255 where the call left something else than it should.
+fn end_line(refusal: Option<Answer>) {
+    records::figure(refusal.map_or(255, |a| a.number as usize), b"\n");
 }
 
 // What a small program fits into.
@@ -314,45 +256,43 @@ fn refused(first: u64, entry: u32, start: u32, l: Lent) {
         &mut work,
         l,
     );
-    let kept = replay::same64(&ops, &ops_were, 3)
-        & replay::same32(&spans, &spans_were, 4)
-        & replay::same32(&entries, &entries_were, 2)
-        & replay::same64(&functions, &functions_were, 2)
-        & replay::zeros32(&work, l.room);
-    end_line(answer.number, kept);
+    let kept = replay::equal(&ops, &ops_were, 3)
+        & replay::equal(&spans, &spans_were, 4)
+        & replay::equal(&entries, &entries_were, 2)
+        & replay::equal(&functions, &functions_were, 2)
+        & replay::zeros(&work, l.room);
+    end_line(kept.then_some(answer));
 }
 
 fn refused_words() {
     replay::write(b"Jmp 9 alone: ");
-    let mut alone = fit();
-    alone.used = 1;
-    refused(op::jmp(9), 1, 1, alone);
+    refused(op::jmp(9), 1, 1, Lent { used: 1, ..fit() });
     replay::write(b"a word that is no op: ");
     refused(61, 1, 1, fit());
 }
 
 fn refused_lengths() {
     replay::write(b"a used length beyond the ops: ");
-    let mut ops = fit();
-    ops.used = 4;
-    ops.spans = 4;
-    ops.room = 5;
+    let ops = Lent {
+        used: 4,
+        spans: 4,
+        room: 5,
+        ..fit()
+    };
     refused(op::jmp(1), 1, 1, ops);
     replay::write(b"a used length beyond the spans: ");
-    let mut spans = fit();
-    spans.spans = 2;
-    refused(op::jmp(1), 1, 1, spans);
+    refused(op::jmp(1), 1, 1, Lent { spans: 2, ..fit() });
 }
 
 fn refused_room() {
     replay::write(b"a used length beyond the switch entries: ");
-    let mut entries = fit();
-    entries.entries_used = 3;
+    let entries = Lent {
+        entries_used: 3,
+        ..fit()
+    };
     refused(op::jmp(1), 1, 1, entries);
     replay::write(b"work room one short: ");
-    let mut work = fit();
-    work.room = 3;
-    refused(op::jmp(1), 1, 1, work);
+    refused(op::jmp(1), 1, 1, Lent { room: 3, ..fit() });
 }
 
 fn refused_tables() {
@@ -366,54 +306,24 @@ fn refused_for_two() {
     replay::write(b"a word that is no op, and a target beyond the ops: ");
     refused(61, 4, 1, fit());
     replay::write(b"work room one short, and a target beyond the ops: ");
-    let mut work = fit();
-    work.room = 3;
-    refused(op::jmp(9), 1, 1, work);
+    refused(op::jmp(9), 1, 1, Lent { room: 3, ..fit() });
 }
 
 // One op more than a program may have: Nops, and a jump that compaction would bring to the front.
 fn refused_count() {
-    let mut text = no_text();
+    let mut text = records::filled::<u8, TEXT>(0);
     text[8 * 65534] = (op::jmp(0) % 256) as u8;
     let p = Program {
         ops: 65535,
         entries: 0,
         functions: 0,
-        whole: true,
     };
     replay::write(b"65535 ops: ");
-    let answer = compacted(&text, lent_for(p), &text);
-    figure(answer.number as usize, b"\n");
-}
-
-// The lists of a program, one behind the other.
-fn no_text() -> [u8; 819712]
-    ensures { 819712 ≡ length result }
-{
-    [0; 819712]
-}
-
-fn no_ops() -> [u64; 65536]
-    ensures { 65536 ≡ length result }
-{
-    [0; 65536]
-}
-
-fn no_words() -> [u32; 65536]
-    ensures { 65536 ≡ length result }
-{
-    [0; 65536]
-}
-
-// A work room that nobody cleared.
-fn littered() -> [u32; 65536]
-    ensures { 65536 ≡ length result }
-{
-    [7; 65536]
+    end_line(compacted(&text, lent_for(p), &text));
 }
 
 fn main() {
-    replay_all();
+    records::report_cut(replay_all());
     refused_words();
     refused_lengths();
     refused_room();

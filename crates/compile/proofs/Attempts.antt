@@ -1,42 +1,45 @@
 -- From step to step: what each step of compiling knows of those before it, and what they leave together.
+use Rattle.std.specs.Prelude.{Ok, Err}
 use Prim.Native.Nat.{ℕ, ◌*◌, ◌-◌, ◌≤◌, ◌<◌, min}
-use mathlib.Core.Bool.{true}
+use mathlib.Core.Logic.{◌≢◌}
+use mathlib.Core.Bool.{Bool, true, false}
 use mathlib.Core.List.{List, ◌++◌}
 use mathlib.Core.Path.{◌≡◌, refl, sym, ap, subst, ◌∙◌}
 use native.Mathlib.Omega.{arith}
-use borrow.Author.Tests.{leb-true, ltb-true}
-use lib.Dec.{leb, ltb, eqb}
+use borrow.Author.Tests.{leb-true, ltb-true, eq-eqb}
+use lib.Dec.{leb, ltb}
 use lib.ListN.{length, get_or, take, drop, length-append, length-take, length-drop, length-map}
 use lib.Seq.{sets, length-sets, take_at, drop_at, take-append-le, drop-append-le}
 use Rattle.base.specs.Choice.{pick}
 use Rattle.base.specs.Limits.{most_of_a_kind}
-use Rattle.base.specs.Buffers.{zero_from}
 use Rattle.base.specs.Emission.{Out}
 use Rattle.base.proofs.Lists.{sets-front}
+use Rattle.refusal.specs.declared.Refusal.{Refusal}
+use Rattle.refusal.specs.Numbers.{number_of}
 use Rattle.input.specs.Layout.{function_id, values}
 use Rattle.input.specs.Forms.{both, words_ok}
 use Rattle.input.proofs.Chain.{both-parts, seven_parts}
 use Rattle.judge.specs.Judged.{unfit}
+use Rattle.judge.proofs.Verdicts.{some}
 use Rattle.assign.specs.Walk.{assigned, slots_ok}
 use Rattle.ready.specs.Ready.{Ready}
 use Rattle.instrs.specs.Instrs.{seen}
 use Rattle.placing.specs.declared.Placed.{Placed}
 use Rattle.placing.specs.Placing.{PlacesGiven, PlacesTried, room_ok as places_fit}
 use Rattle.lists.specs.declared.Used.{Used}
-use Rattle.lists.specs.declared.Tried.{Tried}
 use Rattle.lists.specs.Lists.{Lists, lists_after, lists_fit, Started, ListsReady, Made, Listed}
 use Rattle.assemble.specs.Assemble.{start_out, function_out, Lowerable, ProgramReady}
-use Rattle.own_entry.specs.OwnEntry.{functions_after, PlacesReady, Put, Assembled}
+use Rattle.own_entry.specs.OwnEntry.{functions_after, PlacesReady, Put, NotPut, Assembled}
 use Rattle.used.specs.Used.{labels_for, labels_at}
 use Rattle.used.specs.Pens.{op_room}
 use Rattle.first_checks.specs.Buffers.{Buffers, lists_of, lent}
 use Rattle.first_checks.specs.Checks.{used_ok, entry_ok, Sized}
 use Rattle.compile.specs.Compile.{places_of, new_lists, final_out, new_targets, room_ok, refusal, done_of}
-use Rattle.compile.specs.Attempt.{Finished, Kept, Attempted}
+use Rattle.compile.specs.Attempt.{Kept, Attempted}
 use Rattle.placing.proofs.Low.{places_are, places_low}
 use Rattle.compile.proofs.Lowerable.{ready_given, lowerable_given}
 use Rattle.lists.proofs.Made.{Counted, counted, listed_fits}
-use Rattle.compile.proofs.Refused.{passed, none_before, step_same, lowest, room_fits}
+use Rattle.compile.proofs.Refused.{passed, at_early, at_places, at_test, room_fits}
 
 -- slots behind the first u that become pcs in their buffer are the new slots stored there
 relabelled : (buf l labels : List ℕ) (u k : ℕ) → k ≡ length l → u ≤ length l → length l ≤ length buf
@@ -132,219 +135,289 @@ out_of n ws b u places noted lists l p =
     (take l.builtins lists.builtins))
     u p.top p.slots (start_out ws b.ops b.spans b.labels u)
 
-module _ (n : ℕ) (most : n ≤ 64) (ws : List ℕ) (u : Used) (b : Buffers) (word : get_or ws 13 0 < 4294967296) {e : ℕ}
-    (early : e ≡ pick (words_ok ws) (pick (used_ok b u) (unfit n ws b.functions) 2) 1) where
-  early_none : e ≡ 0 → (used_ok b u ≡ true) × (unfit n ws b.functions ≡ 0)
-  early_none z =
-      passed (used_ok b u) (unfit n ws b.functions) 2 (omega arith) (passed (words_ok ws) _ 1 (omega arith) (sym early ∙ z)).1
+-- a refusal has a number
+numbered : (why : Refusal) → number_of why ≢ 0
+numbered why e = let z : ◌≡◌ {A = Bool} true false = sym (eq-eqb (number_of why) 0 e) ∙ some why in cc
 
-  pub ready_then : e ≡ 0 → Ready ws
-  ready_then z = ready_given n most ws b.functions word (early_none z).1
+-- nothing behind the used lengths has changed, whatever the places and the work room
+abbrev still : Buffers → List ℕ → List ℕ → List ℕ → Buffers
+still b places hints noted =
+    lent b.ops b.spans b.globals b.builtins b.functions b.switches b.targets b.lookups b.values places hints noted b.labels
 
-  module _ {places' noted' : List ℕ} {p : Placed} (placed : PlacesTried n e ws b.places b.hints b.noted places' noted' p) {k : ℕ}
-      (entered : k ≡ pick (eqb p.number 0) (pick (entry_ok ws b) 0 9) p.number) where
-    placed_none : k ≡ 0 → p.number ≡ 0
-    placed_none z = (none_before p.number _ (sym entered ∙ z)).0
+-- with the lists made or not
+abbrev left : Lists → List ℕ → List ℕ → List ℕ → List ℕ → List ℕ → List ℕ → List ℕ → List ℕ → Buffers
+left g places hints noted ops spans functions targets labels =
+    lent ops spans g.globals g.builtins functions g.switches targets g.lookups g.values places hints noted labels
 
-    early-then : k ≡ 0 → e ≡ 0
-    early-then z = (none_before e _ (sym placed.number_is ∙ placed_none z)).0
+still_kept : (u : Used) (b : Buffers) (places hints noted : List ℕ) → Kept u b (still b places hints noted)
+still_kept u b places hints noted =
+    record {
+      ops_kept = refl;
+      spans_kept = refl;
+      globals_kept = refl;
+      builtins_kept = refl;
+      functions_kept = refl;
+      switches_kept = refl;
+      targets_kept = refl;
+      lookups_kept = refl;
+      values_kept = refl;
+    }
 
-    used_then : k ≡ 0 → Uses b u
-    used_then z = uses b u (early_none (early-then z)).0
+module _ (n : ℕ) (most : n ≤ 64) (ws : List ℕ) (u : Used) (b : Buffers) (word : get_or ws 13 0 < 4294967296) where
+  pub refused_early : (why : Refusal) → number_of why ≡ pick (words_ok ws) (pick (used_ok b u) (unfit n ws b.functions) 2) 1 → Attempted n ws u b b (Err why)
+  unfolding refusal
+  refused_early why e =
+      record {
+        number_is = at_early (words_ok ws) (used_ok b u) (unfit n ws b.functions) _ (number_of why) (numbered why) e;
+        done = tt;
+        refused = still_kept u b b.places b.hints b.noted;
+      }
 
-    given-then : k ≡ 0 → PlacesGiven n ws b.places places' noted' p
-    given-then z = placed.given (placed_none z)
+  module _ (early : 0 ≡ pick (words_ok ws) (pick (used_ok b u) (unfit n ws b.functions) 2) 1) where
+    words_good : words_ok ws ≡ true
+    words_good = (passed (words_ok ws) _ 1 (omega arith) early).0
 
-    places_long : k ≡ 0 → values ws ≤ length places'
-    places_long z =
-        omega (arith, ap length (given-then z).places_is, length-sets b.places 0 (assigned n ws).map, (given-then z).places_there)
+    used_good : used_ok b u ≡ true
+    used_good = (passed (used_ok b u) (unfit n ws b.functions) 2 (omega arith) (passed (words_ok ws) _ 1 (omega arith) early).1).0
 
-    entry_there : k ≡ 0 → function_id ws < length b.functions
-    unfolding entry_ok
-    entry_there z =
-        let t = (passed (entry_ok ws b) 0 9 (omega arith) (none_before p.number _ (sym entered ∙ z)).1).0 in
-        let h = ltb-true (function_id ws) (min (length b.functions) most_of_a_kind) (both-parts (leb (labels_for ws) (length b.labels)) _ t).1 in
-        omega arith
+    unfit_none : unfit n ws b.functions ≡ 0
+    unfit_none = sym (passed (used_ok b u) (unfit n ws b.functions) 2 (omega arith) (passed (words_ok ws) _ 1 (omega arith) early).1).1
 
-    pub lists_ready : k ≡ 0 → ListsReady ws places' u (lists_of b)
-    lists_ready z = record { ready = ready_then (early-then z); placed = places_long z; started = (used_then z).started }
+    pub ready_then : Ready ws
+    ready_then = ready_given n most ws b.functions word unfit_none
 
-    -- the lists of the places given are those of the definition
-    lists_are : k ≡ 0 → lists_after ws (take (values ws) places') (lists_of b) u ≡ new_lists n ws b u
-    lists_are z = ap (λ (m : List ℕ). lists_after ws m (lists_of b) u) (places_are (given-then z))
+    -- what is left of the refusals
+    refusal_then : refusal n ws b u ≡ pick (slots_ok n ws) (pick (room_ok n ws b u) 0 9) 8
+    unfolding refusal
+    refusal_then = rw (words_good, used_good, unfit_none)
 
-    module _ {lists' : Lists} {l : Tried} (listed : Listed ws places' u k (lists_of b) lists' l) where
-      entered_none : l.number ≡ 0 → k ≡ 0
-      entered_none z = (listed_fits listed z).0
+    uses_then : Uses b u
+    uses_then = uses b u used_good
 
-      made_then : l.number ≡ 0 → Made u (lists_of b) (new_lists n ws b u) l.used lists'
-      made_then z = subst (λ (x : Lists). Made u (lists_of b) x l.used lists') (lists_are (entered_none z)) (listed.made z)
+    pub refused_places : {places' hints' noted' : List ℕ} (why : Refusal) → PlacesTried n ws b.places b.hints b.noted places' noted' (Err why)
+        → Attempted n ws u b (still b places' hints' noted') (Err why)
+    unfolding room_ok
+    refused_places {places'} {hints'} {noted'} why t =
+        record {
+          number_is = at_places (slots_ok n ws) (places_fit ws b.places b.hints b.noted) _ (number_of why) (numbered why) t.number_is ∙ sym refusal_then;
+          done = tt;
+          refused = still_kept u b places' hints' noted';
+        }
 
-      counted-then : l.number ≡ 0 → Counted u (new_lists n ws b u) l.used lists'
-      counted-then z =
-          counted ws (places_of n ws) u (lists_of b) (used_then (entered_none z)).started
-          (sym (ap (lists_fit (lists_of b)) (lists_are (entered_none z))) ∙ (listed_fits listed z).1) (made_then z)
+    module _ {places' noted' : List ℕ} {p : Placed} (placed : PlacesTried n ws b.places b.hints b.noted places' noted' (Ok p)) where
+      slots_good : slots_ok n ws ≡ true
+      slots_good = (passed (slots_ok n ws) _ 8 (omega arith) placed.number_is).0
 
-      lowerable_then : l.number ≡ 0 → Lowerable ws
-      lowerable_then z = lowerable_given n most ws b.functions word (early_none (early-then (entered_none z))).1
+      places_good : places_fit ws b.places b.hints b.noted ≡ true
+      places_good = (passed (places_fit ws b.places b.hints b.noted) 0 9 (omega arith) (passed (slots_ok n ws) _ 8 (omega arith) placed.number_is).1).0
 
-      places_then : l.number ≡ 0 → PlacesReady ws places' noted' p
-      places_then z =
-          let g = given-then (entered_none z) in
+      places_long : values ws ≤ length places'
+      places_long = omega (arith, ap length placed.given.places_is, length-sets b.places 0 (assigned n ws).map, placed.given.places_there)
+
+      -- what is left of them behind the places
+      room_then : refusal n ws b u
+          ≡ pick
+          (both (entry_ok ws b)
+          (both (lists_fit (lists_of b) (new_lists n ws b u)) (leb (length (final_out n ws b u).ops) (op_room b.ops b.spans)))) 0 9
+      unfolding room_ok
+      room_then = refusal_then ∙ rw (slots_good, places_good)
+
+      pub refused_entry : {hints' : List ℕ} (why : Refusal) → number_of why ≡ pick (entry_ok ws b) 0 9
+          → Attempted n ws u b (still b places' hints' noted') (Err why)
+      refused_entry {hints'} why e =
           record {
-            places_there = places_long (entered_none z);
-            noted_there = g.noted_there;
-            places_low = places_low g;
-            slots_few = g.slots_few;
-            top_low = g.top_low;
+            number_is = at_test (entry_ok ws b) _ (number_of why) (numbered why) e ∙ sym room_then;
+            done = tt;
+            refused = still_kept u b places' hints' noted';
           }
 
-      program_then : l.number ≡ 0 → ProgramReady ws b.functions b.ops b.spans lists'.globals lists'.builtins u l.used
-      program_then z =
-          let s = used_then (entered_none z) in
-          let i = counted-then z in
-          record {
-            entry_there = entry_there (entered_none z);
-            ops_room = s.ops_room;
-            switches_few = s.switches_few;
-            lookups_few = s.lookups_few;
-            interned = record {
-              globals_there = i.globals.there;
-              globals_few = i.globals_few;
-              builtins_there = i.builtins.there;
-              builtins_few = i.builtins_few;
-            };
-          }
+      module _ (entered : ◌≡◌ {A = ℕ} 0 (pick (entry_ok ws b) 0 9)) where
+        entry_good : entry_ok ws b ≡ true
+        entry_good = (passed (entry_ok ws b) 0 9 (omega arith) entered).0
 
-      -- all that putting the function needs
-      pub put_ready : (l.number ≡ 0 → Lowerable ws)
-          × ((l.number ≡ 0 → PlacesReady ws places' noted' p)
-          × (l.number ≡ 0 → ProgramReady ws b.functions b.ops b.spans lists'.globals lists'.builtins u l.used))
-      put_ready = (lowerable_then, (places_then, program_then))
+        entry_there : function_id ws < length b.functions
+        unfolding entry_ok
+        entry_there =
+            let h = ltb-true (function_id ws) (min (length b.functions) most_of_a_kind) (both-parts (leb (labels_for ws) (length b.labels)) _ entry_good).1 in
+            omega arith
 
-      -- what is put is what the definition says
-      out_is : l.number ≡ 0 → out_of n ws b u places' noted' lists' l.used p ≡ final_out n ws b u
-      unfolding final_out
-      out_is z =
-          let g = given-then (entered_none z) in
-          let i = counted-then z in
-          rw (places_are g, g.noted_is, i.globals.taken, i.builtins.taken, g.top_is, g.slots_is)
+        pub lists_ready : ListsReady ws places' u (lists_of b)
+        lists_ready = record { ready = ready_then; placed = places_long; started = uses_then.started }
 
-      module _ {ops'' spans'' labels'' functions'' : List ℕ} {f : Tried}
-          (put : Assembled (out_of n ws b u places' noted' lists' l.used p) l.number u l.used b.ops b.spans b.functions
-          (functions_after ws b.functions u) ops'' spans'' labels'' functions'' f) where
-        listed_none : f.number ≡ 0 → l.number ≡ 0
-        listed_none z = (none_before l.number _ (sym put.number_is ∙ z)).0
+        -- the lists of the places given are those of the definition
+        lists_are : lists_after ws (take (values ws) places') (lists_of b) u ≡ new_lists n ws b u
+        lists_are = ap (λ (m : List ℕ). lists_after ws m (lists_of b) u) (places_are placed.given)
 
-        put_then : f.number ≡ 0
-            → Put (final_out n ws b u) (functions_after ws b.functions u) l.used b.ops b.spans ops'' spans'' labels'' functions'' f.used
-        put_then z =
-            subst (λ (o : Out). Put o (functions_after ws b.functions u) l.used b.ops b.spans ops'' spans'' labels'' functions'' f.used)
-            (out_is (listed_none z)) (put.put z)
-
-        -- as many slots as the lists have
-        slots_same : f.number ≡ 0 → f.used.targets ≡ l.used.targets
-        slots_same z = ap (λ (x : Used). x.targets) (put_then z).used_is
-
-        slots_end : f.number ≡ 0 → f.used.targets ≡ length (new_lists n ws b u).targets
-        slots_end z = slots_same z ∙ ap (λ (x : Used). x.targets) (made_then (listed_none z)).used_is
-
-        pub targets_then : f.number ≡ 0
-            → (u.targets ≤ f.used.targets) × (f.used.targets ≤ length lists'.targets) × ((t : ℕ) → get_or labels'' t 0 < 4294967296)
-        targets_then z =
-            let i = counted-then (listed_none z) in
-            (omega (arith, slots_same z, i.targets_more), omega (arith, slots_same z, i.targets.there), (put_then z).labels_low)
-
-        number-then : f.number ≡ refusal n ws b u
-        unfolding refusal room_ok
-        number-then =
-            put.number_is
-            ∙ step_same l.number _ _ (λ z. ap (λ (o : Out). leb (length o.ops) (op_room b.ops b.spans)) (out_is z))
-            ∙ lowest (words_ok ws) (used_ok b u) (slots_ok n ws) (places_fit ws b.places b.hints b.noted) (entry_ok ws b)
-            (lists_fit (lists_of b) (new_lists n ws b u)) (leb (length (final_out n ws b u).ops) (op_room b.ops b.spans))
-            (unfit n ws b.functions) e p.number k l.number early placed.number_is entered
-            (listed.number_is ∙ step_same k _ _ (λ z. ap (lists_fit (lists_of b)) (lists_are z)))
-
-        module _ {targets'' : List ℕ}
-            (finished : (f.number ≡ 0
-            → targets''
-            ≡ take u.targets lists'.targets
-            ++ labels_at labels'' (take (f.used.targets - u.targets) (drop u.targets lists'.targets))
-            ++ drop f.used.targets lists'.targets)
-            × ((f.number ≡ 0 → ⊥) → targets'' ≡ lists'.targets))
-            (hints'' : List ℕ) where
-          abbrev left : Buffers
-          left =
-              lent ops'' spans'' lists'.globals lists'.builtins functions'' lists'.switches targets'' lists'.lookups lists'.values places'
-              hints'' noted' labels''
-
-          targets_done : f.number ≡ 0 → targets'' ≡ sets b.targets 0 (new_targets n ws b u)
-          targets_done z =
-              let m = made_then (listed_none z) in
-              let t = targets_then z in
-              let s : length lists'.targets ≡ length b.targets =
-              ap length m.targets_is ∙ length-sets b.targets 0 (new_lists n ws b u).targets in
-              finished.0 z
-              ∙ rw (m.targets_is, (put_then z).labels_is)
-              (relabelled b.targets (new_lists n ws b u).targets (final_out n ws b u).labels u.targets f.used.targets (slots_end z)
-              (omega (arith, slots_end z, t.0)) (omega (arith, slots_end z, t.1, s)))
-
-          done-then : f.number ≡ 0 → Finished (done_of n ws b u) f.used left
-          unfolding done_of
-          done-then z =
-              let m = made_then (listed_none z) in
-              let q = put_then z in
+        module _ {lists' : Lists} where
+          pub refused_lists : {hints' : List ℕ} (why : Refusal) → Listed ws places' u (lists_of b) lists' (Err why)
+              → Attempted n ws u b (left lists' places' hints' noted' b.ops b.spans b.functions lists'.targets b.labels) (Err why)
+          refused_lists why t =
+              let k = t.kept in
               record {
-                used_is = q.used_is
-                    ∙ ap
-                    (λ (x : Used).
+                number_is =
+                    at_test (lists_fit (lists_of b) (new_lists n ws b u)) (leb (length (final_out n ws b u).ops) (op_room b.ops b.spans)) (number_of why) (numbered why)
+                    (t.number_is ∙ ap (λ (x : Lists). pick (lists_fit (lists_of b) x) 0 9) lists_are)
+                    ∙ sym (room_then ∙ rw entry_good);
+                done = tt;
+                refused =
                     record {
-                      ops = length (final_out n ws b u).ops;
-                      globals = x.globals;
-                      builtins = x.builtins;
-                      switches = x.switches;
-                      targets = x.targets;
-                      lookups = x.lookups;
-                      values = x.values;
-                    })
-                    m.used_is;
-                ops_is = q.ops_is;
-                spans_is = q.spans_is;
-                globals_is = m.globals_is;
-                builtins_is = m.builtins_is;
-                functions_is = q.functions_is;
-                switches_is = m.switches_is;
-                targets_is = targets_done z;
-                lookups_is = m.lookups_is;
-                values_is = m.values_is;
-                places_is = (given-then (entered_none (listed_none z))).places_is;
+                      ops_kept = refl;
+                      spans_kept = refl;
+                      globals_kept = k.globals_kept;
+                      builtins_kept = k.builtins_kept;
+                      functions_kept = refl;
+                      switches_kept = k.switches_kept;
+                      targets_kept = k.targets_kept;
+                      lookups_kept = k.lookups_kept;
+                      values_kept = k.values_kept;
+                    };
               }
 
-          refused-then : (f.number ≡ 0 → ⊥) → Kept u b left
-          refused-then z =
-              let q = put.not_put z in
-              let k = listed.kept in
-              record {
-                ops_kept = q.ops_kept;
-                spans_kept = q.spans_kept;
-                globals_kept = k.globals_kept;
-                builtins_kept = k.builtins_kept;
-                functions_kept = q.functions_kept;
-                switches_kept = k.switches_kept;
-                targets_kept = ap (λ (t : List ℕ). zero_from t u.targets) (finished.1 z) ∙ k.targets_kept;
-                lookups_kept = k.lookups_kept;
-                values_kept = k.values_kept;
-              }
+          module _ {l : Used} (listed : Listed ws places' u (lists_of b) lists' (Ok l)) where
+            lists_good : lists_fit (lists_of b) (new_lists n ws b u) ≡ true
+            lists_good = sym (ap (lists_fit (lists_of b)) lists_are) ∙ listed_fits listed
 
-          pub attempted : length places' ≡ length b.places → length hints'' ≡ length b.hints → length noted' ≡ length b.noted
-              → length labels'' ≡ length b.labels → Attempted n ws u b left f
-          attempted sp sh sn sl =
-              record {
-                number_is = number-then;
-                done = done-then;
-                refused = refused-then;
-                places_same = sp;
-                hints_same = sh;
-                noted_same = sn;
-                labels_same = sl;
-              }
+            made_then : Made u (lists_of b) (new_lists n ws b u) l lists'
+            made_then = subst (λ (x : Lists). Made u (lists_of b) x l lists') lists_are listed.made
+
+            counted-then : Counted u (new_lists n ws b u) l lists'
+            counted-then = counted ws (places_of n ws) u (lists_of b) uses_then.started lists_good made_then
+
+            pub lowerable_then : Lowerable ws
+            lowerable_then = lowerable_given n most ws b.functions word unfit_none
+
+            pub places_then : PlacesReady ws places' noted' p
+            places_then =
+                let g : PlacesGiven n ws b.places places' noted' p = placed.given in
+                record {
+                  places_there = places_long;
+                  noted_there = g.noted_there;
+                  places_low = places_low g;
+                  slots_few = g.slots_few;
+                  top_low = g.top_low;
+                }
+
+            pub program_then : ProgramReady ws b.functions b.ops b.spans lists'.globals lists'.builtins u l
+            program_then =
+                let s = uses_then in
+                let i = counted-then in
+                record {
+                  entry_there = entry_there;
+                  ops_room = s.ops_room;
+                  switches_few = s.switches_few;
+                  lookups_few = s.lookups_few;
+                  interned = record {
+                    globals_there = i.globals.there;
+                    globals_few = i.globals_few;
+                    builtins_there = i.builtins.there;
+                    builtins_few = i.builtins_few;
+                  };
+                }
+
+            -- what is put is what the definition says
+            out_is : out_of n ws b u places' noted' lists' l p ≡ final_out n ws b u
+            unfolding final_out
+            out_is =
+                let g : PlacesGiven n ws b.places places' noted' p = placed.given in
+                let i = counted-then in
+                rw (places_are g, g.noted_is, i.globals.taken, i.builtins.taken, g.top_is, g.slots_is)
+
+            ops_then : refusal n ws b u ≡ pick (leb (length (final_out n ws b u).ops) (op_room b.ops b.spans)) 0 9
+            ops_then = room_then ∙ rw (entry_good, lists_good)
+
+            module _ {ops'' spans'' labels'' functions'' : List ℕ} where
+              pub refused_put : {hints' : List ℕ} (why : Refusal)
+                  → Assembled (out_of n ws b u places' noted' lists' l p) u l b.ops b.spans b.functions (functions_after ws b.functions u) ops'' spans'' labels'' functions'' (Err why)
+                  → Attempted n ws u b (left lists' places' hints' noted' ops'' spans'' functions'' lists'.targets labels'') (Err why)
+              refused_put why t =
+                  let k = listed.kept in
+                  let q : NotPut u b.ops b.spans b.functions ops'' spans'' functions'' = t.not_put in
+                  record {
+                    number_is = t.number_is ∙ ap (λ (o : Out). pick (leb (length o.ops) (op_room b.ops b.spans)) 0 9) out_is ∙ sym ops_then;
+                    done = tt;
+                    refused =
+                        record {
+                          ops_kept = q.ops_kept;
+                          spans_kept = q.spans_kept;
+                          globals_kept = k.globals_kept;
+                          builtins_kept = k.builtins_kept;
+                          functions_kept = q.functions_kept;
+                          switches_kept = k.switches_kept;
+                          targets_kept = k.targets_kept;
+                          lookups_kept = k.lookups_kept;
+                          values_kept = k.values_kept;
+                        };
+                  }
+
+              module _ {f : Used}
+                  (put : Assembled (out_of n ws b u places' noted' lists' l p) u l b.ops b.spans b.functions
+                  (functions_after ws b.functions u) ops'' spans'' labels'' functions'' (Ok f)) where
+                put_then : Put (final_out n ws b u) (functions_after ws b.functions u) l b.ops b.spans ops'' spans'' labels'' functions'' f
+                put_then =
+                    subst (λ (o : Out). Put o (functions_after ws b.functions u) l b.ops b.spans ops'' spans'' labels'' functions'' f)
+                    out_is put.put
+
+                -- as many slots as the lists have
+                slots_same : f.targets ≡ l.targets
+                slots_same = ap (λ (x : Used). x.targets) put_then.used_is
+
+                slots_end : f.targets ≡ length (new_lists n ws b u).targets
+                slots_end = slots_same ∙ ap (λ (x : Used). x.targets) made_then.used_is
+
+                pub targets_then : (u.targets ≤ f.targets) × (f.targets ≤ length lists'.targets) × ((t : ℕ) → get_or labels'' t 0 < 4294967296)
+                targets_then =
+                    let i = counted-then in
+                    (omega (arith, slots_same, i.targets_more), omega (arith, slots_same, i.targets.there), put_then.labels_low)
+
+                module _ {targets'' : List ℕ}
+                    (finished : targets''
+                    ≡ take u.targets lists'.targets
+                    ++ labels_at labels'' (take (f.targets - u.targets) (drop u.targets lists'.targets))
+                    ++ drop f.targets lists'.targets) where
+                  targets_done : targets'' ≡ sets b.targets 0 (new_targets n ws b u)
+                  targets_done =
+                      let m = made_then in
+                      let t = targets_then in
+                      let s : length lists'.targets ≡ length b.targets =
+                      ap length m.targets_is ∙ length-sets b.targets 0 (new_lists n ws b u).targets in
+                      finished
+                      ∙ rw (m.targets_is, put_then.labels_is)
+                      (relabelled b.targets (new_lists n ws b u).targets (final_out n ws b u).labels u.targets f.targets slots_end
+                      (omega (arith, slots_end, t.0)) (omega (arith, slots_end, t.1, s)))
+
+                  pub attempted : {hints' : List ℕ} → Attempted n ws u b (left lists' places' hints' noted' ops'' spans'' functions'' targets'' labels'') (Ok f)
+                  unfolding done_of
+                  attempted =
+                      let m = made_then in
+                      let q = put_then in
+                      let g : PlacesGiven n ws b.places places' noted' p = placed.given in
+                      record {
+                        number_is = put.number_is ∙ ap (λ (o : Out). pick (leb (length o.ops) (op_room b.ops b.spans)) 0 9) out_is ∙ sym ops_then;
+                        done =
+                            record {
+                              used_is = q.used_is
+                                  ∙ ap
+                                  (λ (x : Used).
+                                  record {
+                                    ops = length (final_out n ws b u).ops;
+                                    globals = x.globals;
+                                    builtins = x.builtins;
+                                    switches = x.switches;
+                                    targets = x.targets;
+                                    lookups = x.lookups;
+                                    values = x.values;
+                                  })
+                                  m.used_is;
+                              ops_is = q.ops_is;
+                              spans_is = q.spans_is;
+                              globals_is = m.globals_is;
+                              builtins_is = m.builtins_is;
+                              functions_is = q.functions_is;
+                              switches_is = m.switches_is;
+                              targets_is = targets_done;
+                              lookups_is = m.lookups_is;
+                              values_is = m.values_is;
+                              places_is = g.places_is;
+                            };
+                        refused = tt;
+                      }

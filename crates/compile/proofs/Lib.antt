@@ -1,4 +1,3 @@
-pub mod Sizes
 pub mod Endings
 pub mod Lowerable
 pub mod Refused

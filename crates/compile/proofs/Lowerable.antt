@@ -1,4 +1,5 @@
 -- A function that no refusal from 1 to 7 hits can be lowered.
+use Rattle.std.specs.Prelude.{Ok}
 use Prim.Native.Nat.{ℕ, ◌+◌, ◌≤◌, ◌<◌}
 use mathlib.Core.List.{List}
 use mathlib.Core.Path.{◌≡◌, refl, sym}
@@ -7,7 +8,6 @@ use lib.ListN.{get_or}
 use Rattle.input.specs.Layout.{head_field, instructions}
 use Rattle.input.specs.Records.{first_instr, instr_count}
 use Rattle.input.proofs.Words.{words_block, words_instr, block-says}
-use Rattle.judge.specs.declared.Verdict.TheVariants.{Fit}
 use Rattle.judge.specs.Judged.{unfit}
 use Rattle.judge.proofs.Shapes.{shape_given, rows-placed}
 use Rattle.judge.proofs.Verdicts.{AllPass, fit-given}
@@ -17,7 +17,7 @@ use Rattle.assemble.specs.Assemble.{Lowerable}
 
 module _ (n : ℕ) (most : n ≤ 64) (ws functions : List ℕ) (word : get_or ws 13 0 < 4294967296) (none : unfit n ws functions ≡ 0) where
   all : AllPass n ws functions
-  all = fit-given n ws functions Fit (sym none) refl
+  all = fit-given n ws functions (Ok tt) (sym none) refl
 
   pub ready_given : Ready ws
   unfolding head_field

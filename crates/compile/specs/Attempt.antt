@@ -1,11 +1,11 @@
 -- What the steps of compiling know and leave.
-use Rattle.std.specs.Prelude.{◌≡◌, ℕ, List, length}
+use Rattle.std.specs.Prelude.{◌≡◌, ℕ, List, Result, IfOk, OnErr}
 use Rattle.base.specs.Buffers.{zero_from}
+use Rattle.refusal.specs.declared.Refusal.{Refusal}
 use Rattle.lists.specs.declared.Used.{Used}
-use Rattle.lists.specs.declared.Tried.{Tried}
 use Rattle.lists.specs.Lists.{global_words, switch_words, lookup_words, value_words}
 use Rattle.first_checks.specs.Buffers.{Buffers}
-use Rattle.compile.specs.Program.{Outcome}
+use Rattle.compile.specs.Program.{Outcome, answer_number}
 use Rattle.compile.specs.Compile.{refusal, done_of}
 
 -- Done, but for the work room: the used lengths and every output buffer.
@@ -34,12 +34,8 @@ pub record Kept (u : Used) (b b' : Buffers) : Type 0 where
   pub lookups_kept : zero_from b'.lookups (lookup_words u) ≡ zero_from b.lookups (lookup_words u)
   pub values_kept : zero_from b'.values (value_words u) ≡ zero_from b.values (value_words u)
 
--- What an attempt leaves of the buffers b: b'. The place buffer and the work room keep their lengths.
-pub record Attempted (n : ℕ) (ws : List ℕ) (u : Used) (b b' : Buffers) (r : Tried) : Type 0 where
-  pub number_is : r.number ≡ refusal n ws b u
-  pub done : r.number ≡ 0 → Finished (done_of n ws b u) r.used b'
-  pub refused : (r.number ≡ 0 → ⊥) → Kept u b b'
-  pub places_same : length b'.places ≡ length b.places
-  pub hints_same : length b'.hints ≡ length b.hints
-  pub noted_same : length b'.noted ≡ length b.noted
-  pub labels_same : length b'.labels ≡ length b.labels
+-- What an attempt leaves of the buffers b: b'.
+pub record Attempted (n : ℕ) (ws : List ℕ) (u : Used) (b b' : Buffers) (r : Result Used Refusal) : Type 0 where
+  pub number_is : answer_number r ≡ refusal n ws b u
+  pub done : IfOk r (λ u'. Finished (done_of n ws b u) u' b')
+  pub refused : OnErr r (Kept u b b')

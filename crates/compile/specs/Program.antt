@@ -1,23 +1,17 @@
 -- What `compile` answers.
-use Rattle.std.specs.Prelude.{ℕ}
+use Rattle.std.specs.Prelude.{ℕ, Result, Ok, Err}
+use Rattle.refusal.specs.declared.Refusal.{Refusal}
+use Rattle.refusal.specs.Numbers.{number_for}
 use Rattle.lists.specs.declared.Used.{Used}
 use Rattle.first_checks.specs.Buffers.{Buffers}
-use Rattle.compile.specs.declared.Answer.{Answer}
-use Rattle.compile.specs.declared.Answer.TheVariants as a
-use Rattle.compile.specs.declared.Compiled.{Compiled}
 
--- document 01's number of each answer
-abbrev pub answer_number : Answer → ℕ
-answer_number a.Done = 0
-answer_number a.BadWord = 1
-answer_number a.TooMany = 2
-answer_number a.BadShape = 3
-answer_number a.DoubleDef = 4
-answer_number a.BadInterval = 5
-answer_number a.UnknownFunc = 6
-answer_number a.BadKey = 7
-answer_number a.NoSlot = 8
-answer_number a.NoRoom = 9
+-- document 01's number of each answer; the used lengths afterwards, of `used` before
+abbrev pub answer_number : Result Used Refusal → ℕ
+answer_number r = number_for r
+
+abbrev pub used_for : Used → Result Used Refusal → Used
+used_for used (Ok new) = new
+used_for used (Err why) = used
 
 -- what comes back: the number, the new used lengths, and every buffer
 pub record Outcome : Type 0 where
@@ -25,6 +19,6 @@ pub record Outcome : Type 0 where
   pub used : Used
   pub buffers : Buffers
 
--- what comes back by an answer and the buffers
-abbrev pub outcome : Compiled → Buffers → Outcome
-outcome r b = record { number = answer_number r.answer; used = r.used; buffers = b }
+-- what comes back by an answer, the used lengths before, and the buffers
+abbrev pub outcome : Result Used Refusal → Used → Buffers → Outcome
+outcome r used b = record { number = answer_number r; used = used_for used r; buffers = b }

@@ -5,16 +5,15 @@
 // Strings that are interned before the first function stand in the globals from the beginning: another program replays the entry for them.
 #![tactic(auto)]
 
-ghost use Rattle.std.specs.Prelude.{◌≡◌, ◌≤◌, ◌<◌, length};
-ghost use Rattle.compile_vectors.specs.Lending.{Fits, WholeLists, WholeTables};
+ghost use Rattle.std.specs.Prelude.{◌≤◌};
+ghost use Rattle.compile_vectors.specs.Lending.{Fits};
 
-use compile::Compiled;
 use lists::Used;
+use records::CutShort;
+use refusal::Refusal;
+use replay::Entry;
 
-// The number of standard output.
-const STDOUT_FILENO: i32 = 1;
-
-// Sums and products are of numbers up to this.
+// Sums are of numbers up to this.
 const MOST: usize = 1000000;
 
 // No list of the text, and so no number of it that counts, is longer.
@@ -25,45 +24,94 @@ const MARK: u32 = 999999999;
 
 const WIDE_MARK: u64 = 999999999;
 
-// The calls of a function: 0 has room to spare, 1 exactly enough, and from 2 on each buffer in turn is a word short, in the order in which `compile`
-// takes them.
-const CALLS: usize = 15;
-
-const EXACT: usize = 1;
-
 // The number of a refusal for too little room.
 const NO_ROOM: usize = 9;
 
 // The differences of a call are a sum: 1 for the answer, 2 for the used lengths, 4 for the function table, and twice as much for each next buffer.
 const TABLE: usize = 4;
 
-// A number for each buffer.
+// The buffers, by the number of the call in which each is a word short, in the order in which `compile` takes them.
+#[derive(Clone, Copy, PartialEq, Eq)]
+enum Buffer {
+    Functions = 2,
+    Ops,
+    Spans,
+    Globals,
+    Builtins,
+    Switches,
+    Targets,
+    Lookups,
+    Values,
+    Places,
+    Hints,
+    Noted,
+    Labels,
+}
+
+// The room that a call has: to spare, exactly enough, or a word less than enough of one buffer.
 #[derive(Clone, Copy)]
-struct PerBuffer {
+enum Room {
+    Spare,
+    Exact,
+    Short(Buffer),
+}
+
+// The calls of a function, in their order.
+const ROOMS: [Room; 15] = [
+    Room::Spare,
+    Room::Exact,
+    Room::Short(Buffer::Functions),
+    Room::Short(Buffer::Ops),
+    Room::Short(Buffer::Spans),
+    Room::Short(Buffer::Globals),
+    Room::Short(Buffer::Builtins),
+    Room::Short(Buffer::Switches),
+    Room::Short(Buffer::Targets),
+    Room::Short(Buffer::Lookups),
+    Room::Short(Buffer::Values),
+    Room::Short(Buffer::Places),
+    Room::Short(Buffer::Hints),
+    Room::Short(Buffer::Noted),
+    Room::Short(Buffer::Labels),
+];
+
+// What a call has of a buffer with a list: the word of the text where the list starts, how many words of it stand there before the call and should
+// after it, and how many are lent.
+#[derive(Clone, Copy)]
+struct Part {
+    start: usize,
+    before: usize,
+    after: usize,
+    lent: usize,
+}
+
+// What a call has of each buffer; of the function table and the work room, only how many words are lent.
+#[derive(Clone, Copy)]
+struct Parts {
     functions: usize,
-    ops: usize,
-    spans: usize,
-    globals: usize,
-    builtins: usize,
-    switches: usize,
-    targets: usize,
-    lookups: usize,
-    values: usize,
-    places: usize,
+    ops: Part,
+    spans: Part,
+    globals: Part,
+    builtins: Part,
+    switches: Part,
+    targets: Part,
+    lookups: Part,
+    values: Part,
+    places: Part,
     hints: usize,
     noted: usize,
     labels: usize,
 }
 
 // A program of the text: how many strings it begins with, whether its functions are compiled in little room too, how many words its function table
-// has, how many functions there are, and the words at which the lists, the function table after them and the functions start.
+// has, how many functions there are, and the words at which the function table before them, the one after them and the functions start.
 #[derive(Clone, Copy)]
 struct Program {
     strings: usize,
     tried: bool,
     table: usize,
     functions: usize,
-    start: PerBuffer,
+    start: usize,
     end: usize,
     first: usize,
 }
@@ -89,22 +137,22 @@ struct Function {
     next: usize,
 }
 
-// The buffers of the function table, the code and the lists, and those of the tables.
+// The buffers of a call, each with all its words.
 #[derive(Clone, Copy)]
-struct ListBuffers {
+struct Buffers {
     functions: [u64; 64],
     ops: [u64; 2048],
     spans: [u32; 2048],
     globals: [u64; 256],
     builtins: [u32; 32],
-}
-
-#[derive(Clone, Copy)]
-struct TableBuffers {
     switches: [u64; 64],
     targets: [u32; 4352],
     lookups: [u64; 64],
     values: [u64; 8448],
+    places: [u32; 384],
+    hints: [u32; 384],
+    noted: [u64; 384],
+    labels: [u64; 3200],
 }
 
 // How many functions were compiled and how many of them differ; how many calls in exactly enough room and in one word less, and how many of them
@@ -119,48 +167,24 @@ struct Tally {
     wrong: usize,
 }
 
-// Sums and products that fit whatever the file has.
+// A sum that fits whatever the file has.
 fn sum(a: usize, b: usize) -> usize {
-    replay::least(a, MOST) + replay::least(b, MOST)
-}
-
-fn product(a: usize, b: usize) -> usize {
-    replay::least(a, MOST) * replay::least(b, MOST)
-}
-
-// The first number if it is so, else the second.
-fn either(so: bool, a: usize, b: usize) -> usize {
-    if so { a } else { b }
+    a.min(MOST) + b.min(MOST)
 }
 
 // Entry i of a list that starts at word `at` of the text, if it is a count.
 fn count_at(text: &[u8], at: usize, i: usize) -> usize {
-    replay::least(replay::word_in(text, at, i) as usize, LONGEST)
+    (replay::word_in(text, at, i) as usize).min(LONGEST)
 }
 
 // The head of the program in the text.
 fn program_of(text: &[u8]) -> Program {
-    let start = PerBuffer {
-        functions: count_at(text, 0, 5),
-        ops: count_at(text, 0, 7),
-        spans: count_at(text, 0, 8),
-        globals: count_at(text, 0, 9),
-        builtins: count_at(text, 0, 10),
-        switches: count_at(text, 0, 11),
-        targets: count_at(text, 0, 12),
-        lookups: count_at(text, 0, 13),
-        values: count_at(text, 0, 14),
-        places: 0,
-        hints: 0,
-        noted: 0,
-        labels: 0,
-    };
     Program {
         strings: count_at(text, 0, 1),
         tried: count_at(text, 0, 2) == 1,
         table: count_at(text, 0, 3),
         functions: count_at(text, 0, 4),
-        start: start,
+        start: count_at(text, 0, 5),
         end: count_at(text, 0, 6),
         first: count_at(text, 0, 15),
     }
@@ -182,8 +206,8 @@ fn used_at(text: &[u8], at: usize) -> Used {
 // Two labels for each block, and one for each pad that a block may have.
 fn labels_for(blocks: usize, edges: usize) -> usize {
     sum(
-        product(2, blocks),
-        replay::least(product(blocks, edges), 32767),
+        blocks.saturating_mul(2),
+        blocks.saturating_mul(edges).min(32767),
     )
 }
 
@@ -196,59 +220,106 @@ fn function_at(text: &[u8], at: usize, before: Used) -> Function {
     let start = sum(at, 11);
     let map = sum(start, words);
     let id = count_at(text, start, 0);
-    let others = either(table == sum(id, 1), id, table);
+    let others = if table == sum(id, 1) { id } else { table };
     let labels = labels_for(count_at(text, start, 4), count_at(text, start, 6));
-    let used = used_at(text, at);
+    let taken = number == 0;
     Function {
-        id: id,
+        id,
         unused: count_at(text, start, 2) != 0,
-        words: words,
-        others: others,
-        table: either(number == 0, table, others),
-        values: either(number == 0, count_at(text, start, 3), 0),
-        labels: either(number == 0, labels, 0),
-        number: number,
-        mapped: mapped,
-        before: before,
-        used: used,
+        words,
+        others,
+        table: if taken { table } else { others },
+        values: if taken { count_at(text, start, 3) } else { 0 },
+        labels: if taken { labels } else { 0 },
+        number,
+        mapped,
+        before,
+        used: used_at(text, at),
         at: start,
-        map: map,
+        map,
         next: sum(map, mapped),
     }
 }
 
-// The words of buffer i that are lent in call k if n are needed: all that it has, exactly as many, or one less.
-fn lent(n: usize, most: usize, i: usize, k: usize) -> usize
+// The words of a buffer that are lent if n are needed: all that it has, exactly as many, or one less.
+fn lent(n: usize, most: usize, buffer: Buffer, room: Room) -> usize
     ensures { result ≤ most }
 {
-    if k == 0 {
-        return most;
+    match room {
+        Room::Spare => most,
+        Room::Short(short) if short == buffer => n.min(most).saturating_sub(1),
+        _ => n.min(most),
     }
-    let words = replay::least(n, most);
-    if words == 0 {
-        return 0;
-    }
-    if k == i { words - 1 } else { words }
 }
 
-// The words that are lent in call k for such used lengths, so many words of the function table, values and labels.
-fn words_for(table: usize, u: Used, values: usize, labels: usize, k: usize) -> PerBuffer
+// What a call has of a buffer whose list stands in the program's text: how many entries of so many words there are before it, after it, and in the end.
+fn part_of(
+    text: &[u8],
+    buffer: Buffer,
+    room: Room,
+    counts: [usize; 3],
+    words: usize,
+    most: usize,
+) -> Part
+    ensures { result.lent ≤ most }
+{
+    let [before, after, needed] = counts;
+    Part {
+        start: count_at(text, 0, buffer as usize + 4),
+        before: before.saturating_mul(words).min(most),
+        after: after.saturating_mul(words).min(most),
+        lent: lent(needed.saturating_mul(words), most, buffer, room),
+    }
+}
+
+// The function as a call leaves it: short of room it is refused, and gives nothing.
+fn left_by(f: Function, room: Room) -> Function {
+    match room {
+        Room::Short(_) => Function {
+            number: NO_ROOM,
+            mapped: 0,
+            used: f.before,
+            ..f
+        },
+        _ => f,
+    }
+}
+
+// What a call has of each buffer, which leaves the function so.
+fn parts_of(text: &[u8], p: Program, f: Function, left: Function, room: Room) -> Parts
     ensures { Fits result }
 {
-    PerBuffer {
-        functions: lent(table, replay::least(table, 64), 2, k),
-        ops: lent(u.ops, 2048, 3, k),
-        spans: lent(u.ops, 2048, 4, k),
-        globals: lent(product(2, u.globals), 256, 5, k),
-        builtins: lent(u.builtins, 32, 6, k),
-        switches: lent(product(3, u.switches), 64, 7, k),
-        targets: lent(u.targets, 4352, 8, k),
-        lookups: lent(product(5, u.lookups), 64, 9, k),
-        values: lent(product(2, u.values), 8448, 10, k),
-        places: lent(values, 384, 11, k),
-        hints: lent(values, 384, 12, k),
-        noted: lent(values, 384, 13, k),
-        labels: lent(labels, 3200, 14, k),
+    let entries = match room {
+        Room::Spare => p.table,
+        _ => f.table,
+    };
+    let (u, w, v) = (f.before, left.used, f.used);
+    let ops = [u.ops, w.ops, v.ops];
+    let globals = [u.globals, w.globals, v.globals];
+    let builtins = [u.builtins, w.builtins, v.builtins];
+    let switches = [u.switches, w.switches, v.switches];
+    let targets = [u.targets, w.targets, v.targets];
+    let lookups = [u.lookups, w.lookups, v.lookups];
+    let values = [u.values, w.values, v.values];
+    Parts {
+        functions: lent(entries, entries.min(64), Buffer::Functions, room),
+        ops: part_of(text, Buffer::Ops, room, ops, 1, 2048),
+        spans: part_of(text, Buffer::Spans, room, ops, 1, 2048),
+        globals: part_of(text, Buffer::Globals, room, globals, 2, 256),
+        builtins: part_of(text, Buffer::Builtins, room, builtins, 1, 32),
+        switches: part_of(text, Buffer::Switches, room, switches, 3, 64),
+        targets: part_of(text, Buffer::Targets, room, targets, 1, 4352),
+        lookups: part_of(text, Buffer::Lookups, room, lookups, 5, 64),
+        values: part_of(text, Buffer::Values, room, values, 2, 8448),
+        places: Part {
+            start: f.map,
+            before: 0,
+            after: left.mapped.min(384),
+            lent: lent(f.values, 384, Buffer::Places, room),
+        },
+        hints: lent(f.values, 384, Buffer::Hints, room),
+        noted: lent(f.values, 384, Buffer::Noted, room),
+        labels: lent(f.labels, 3200, Buffer::Labels, room),
     }
 }
 
@@ -257,263 +328,120 @@ fn calls_of(p: Program, f: Function) -> usize
     ensures { result ≤ 15 }
 {
     if f.unused {
-        return 0;
+        0
+    } else if !p.tried {
+        1
+    } else if f.number != 0 {
+        2
+    } else {
+        ROOMS.len()
     }
-    if !p.tried {
-        return 1;
+}
+
+// Does the function add to the buffer?
+fn adds_to(f: Function, buffer: Buffer) -> bool {
+    let (u, v) = (f.before, f.used);
+    match buffer {
+        Buffer::Functions => f.others < f.table,
+        Buffer::Ops | Buffer::Spans => u.ops < v.ops,
+        Buffer::Globals => u.globals < v.globals,
+        Buffer::Builtins => u.builtins < v.builtins,
+        Buffer::Switches => u.switches < v.switches,
+        Buffer::Targets => u.targets < v.targets,
+        Buffer::Lookups => u.lookups < v.lookups,
+        Buffer::Values => u.values < v.values,
+        Buffer::Places | Buffer::Hints | Buffer::Noted => 0 < f.values,
+        Buffer::Labels => 0 < f.labels,
     }
-    if f.number != 0 { 2 } else { CALLS }
 }
 
-// For each call what the function has of the buffer that is short in it; the first two calls have none.
-fn counts(first: usize, table: usize, u: Used, values: usize, labels: usize) -> [usize; CALLS] {
-    [
-        first, first, table, u.ops, u.ops, u.globals, u.builtins, u.switches, u.targets, u.lookups,
-        u.values, values, values, values, labels,
-    ]
+// Only a buffer that the function adds to can be a word short.
+fn has_call(f: Function, room: Room) -> bool {
+    match room {
+        Room::Short(buffer) => adds_to(f, buffer),
+        _ => true,
+    }
 }
 
-// Does the function add to the buffer that is short in call k?
-fn adds_to(f: Function, k: usize) -> bool
-    requires { k < 15 }
-{
-    let u = f.before;
-    let v = f.used;
-    let before = counts(0, f.others, u, 0, 0);
-    let after = counts(1, f.table, v, f.values, f.labels);
-    before[k] < after[k]
-}
-
-// The program before the function: its function table, code and lists, and its tables.
-fn load_lists(text: &[u8], table: [u64; 64], start: PerBuffer, n: PerBuffer) -> ListBuffers
-    ensures { WholeLists result }
-{
-    let mut ops = [WIDE_MARK; 2048];
-    let mut spans = [MARK; 2048];
-    let mut globals = [WIDE_MARK; 256];
-    let mut builtins = [MARK; 32];
-    replay::load64(text, start.ops, &mut ops, n.ops);
-    replay::load32(text, start.spans, &mut spans, n.spans);
-    replay::load64(text, start.globals, &mut globals, n.globals);
-    replay::load32(text, start.builtins, &mut builtins, n.builtins);
-    ListBuffers {
+// The program before the function, with marks behind it.
+fn load(text: &[u8], table: [u64; 64], p: Parts) -> Buffers {
+    let mut b = Buffers {
         functions: table,
-        ops: ops,
-        spans: spans,
-        globals: globals,
-        builtins: builtins,
-    }
-}
-
-fn load_tables(text: &[u8], start: PerBuffer, n: PerBuffer) -> TableBuffers
-    ensures { WholeTables result }
-{
-    let mut switches = [WIDE_MARK; 64];
-    let mut targets = [MARK; 4352];
-    let mut lookups = [WIDE_MARK; 64];
-    let mut values = [WIDE_MARK; 8448];
-    replay::load64(text, start.switches, &mut switches, n.switches);
-    replay::load32(text, start.targets, &mut targets, n.targets);
-    replay::load64(text, start.lookups, &mut lookups, n.lookups);
-    replay::load64(text, start.values, &mut values, n.values);
-    TableBuffers {
-        switches: switches,
-        targets: targets,
-        lookups: lookups,
-        values: values,
-    }
+        ops: [WIDE_MARK; 2048],
+        spans: [MARK; 2048],
+        globals: [WIDE_MARK; 256],
+        builtins: [MARK; 32],
+        switches: [WIDE_MARK; 64],
+        targets: [MARK; 4352],
+        lookups: [WIDE_MARK; 64],
+        values: [WIDE_MARK; 8448],
+        places: [MARK; 384],
+        hints: [MARK; 384],
+        noted: [WIDE_MARK; 384],
+        labels: [WIDE_MARK; 3200],
+    };
+    replay::load(text, p.ops.start, &mut b.ops, p.ops.before);
+    replay::load(text, p.spans.start, &mut b.spans, p.spans.before);
+    replay::load(text, p.globals.start, &mut b.globals, p.globals.before);
+    replay::load(text, p.builtins.start, &mut b.builtins, p.builtins.before);
+    replay::load(text, p.switches.start, &mut b.switches, p.switches.before);
+    replay::load(text, p.targets.start, &mut b.targets, p.targets.before);
+    replay::load(text, p.lookups.start, &mut b.lookups, p.lookups.before);
+    replay::load(text, p.values.start, &mut b.values, p.values.before);
+    b
 }
 
 // The function table after the function: its entry says where its code starts, unless it is refused or unused.
-fn table_after(table: [u64; 64], f: Function, number: usize) -> [u64; 64]
-    ensures { length result ≡ 64 }
-{
-    if f.unused | (number != 0) {
+fn table_after(table: [u64; 64], f: Function) -> [u64; 64] {
+    if f.unused | (f.number != 0) {
         return table;
     }
     let mut after = table;
-    let u = f.before;
-    let pc = replay::least(u.ops, LONGEST) as u32;
-    base::set64(&mut after, f.id, program::bytecode_at(pc));
+    let pc = f.before.ops.min(LONGEST) as u32;
+    base::set(&mut after, f.id, program::bytecode_at(pc));
     after
+}
+
+fn wrong(right: bool, mark: usize) -> usize {
+    if right { 0 } else { mark }
 }
 
 // The differences in the answer, the used lengths and the function table;
 fn wrong_answer(
-    c: Compiled,
-    number: usize,
-    b: Used,
+    c: Result<Used, Refusal>,
+    before: Used,
+    left: Function,
     functions: &[u64; 64],
     entered: &[u64; 64],
     n: usize,
 ) -> usize {
-    let answer = c.answer;
-    let a = c.used;
-    let code = (a.ops == b.ops) & (a.globals == b.globals) & (a.builtins == b.builtins);
-    let switches = (a.switches == b.switches) & (a.targets == b.targets);
-    let lookups = (a.lookups == b.lookups) & (a.values == b.values);
-    let answered = compile::number_of(answer) as usize;
-    either(answered == number, 0, 1)
-        | either(code & switches & lookups, 0, 2)
-        | either(replay::same64(functions, entered, n), 0, TABLE)
+    wrong(refusal::number_for(c) as usize == left.number, 1)
+        | wrong(c.unwrap_or(before) == left.used, 2)
+        | wrong(replay::equal(functions, entered, n), TABLE)
 }
 
-// the code and the lists;
-fn wrong_lists(
-    text: &[u8],
-    start: PerBuffer,
-    used: PerBuffer,
-    rest: u32,
-    n: PerBuffer,
-    ops: &[u64; 2048],
-    spans: &[u32; 2048],
-    globals: &[u64; 256],
-    builtins: &[u32; 32],
-) -> usize {
-    let wide = rest as u64;
-    let o = replay::right64(text, start.ops, used.ops, wide, ops, n.ops);
-    let s = replay::right32(text, start.spans, used.spans, rest, spans, n.spans);
-    let g = replay::right64(text, start.globals, used.globals, wide, globals, n.globals);
-    let b = replay::right32(
-        text,
-        start.builtins,
-        used.builtins,
-        rest,
-        builtins,
-        n.builtins,
-    );
-    either(o, 0, 8) | either(s, 0, 16) | either(g, 0, 32) | either(b, 0, 64)
+// in a list, behind which the lent words have to be `rest`;
+fn wrong_list<T: Entry>(text: &[u8], p: Part, rest: u32, a: &[T], mark: usize) -> usize {
+    wrong(
+        replay::right(text, p.start, p.after, T::of(rest), a, p.lent),
+        mark,
+    )
 }
 
-// the tables;
-fn wrong_tables(
-    text: &[u8],
-    start: PerBuffer,
-    used: PerBuffer,
-    rest: u32,
-    n: PerBuffer,
-    switches: &[u64; 64],
-    targets: &[u32; 4352],
-    lookups: &[u64; 64],
-    values: &[u64; 8448],
-) -> usize {
-    let wide = rest as u64;
-    let s = replay::right64(
-        text,
-        start.switches,
-        used.switches,
-        wide,
-        switches,
-        n.switches,
-    );
-    let t = replay::right32(text, start.targets, used.targets, rest, targets, n.targets);
-    let l = replay::right64(text, start.lookups, used.lookups, wide, lookups, n.lookups);
-    let v = replay::right64(text, start.values, used.values, wide, values, n.values);
-    either(s, 0, 128) | either(t, 0, 256) | either(l, 0, 512) | either(v, 0, 1024)
-}
-
-// the places and the work room.
-fn wrong_room(
-    text: &[u8],
-    start: PerBuffer,
-    used: PerBuffer,
-    rest: u32,
-    n: PerBuffer,
-    places: &[u32; 384],
-    hints: &[u32; 384],
-    noted: &[u64; 384],
-    labels: &[u64; 3200],
-) -> usize {
-    let p = replay::right32(text, start.places, used.places, rest, places, n.places);
-    let h = replay::zeros32(hints, n.hints);
-    let k = replay::zeros64(noted, n.noted);
-    let l = replay::zeros64(labels, n.labels);
-    either(p, 0, 2048) | either(h, 0, 4096) | either(k, 0, 8192) | either(l, 0, 16384)
-}
-
-// The differences of a call at such used lengths: it has to answer this number, the wanted used lengths and a function table like the entered one.
-// Of each buffer: where its list starts in the text, how many words are used before the call and after it, and how many are lent; the words past
-// the used ones have to be `rest`.
-fn trial(
-    text: &[u8],
-    ws: &[u32],
-    table: [u64; 64],
-    entered: [u64; 64],
-    used: Used,
-    wanted: Used,
-    number: usize,
-    rest: u32,
-    start: PerBuffer,
-    before: PerBuffer,
-    after: PerBuffer,
-    lent: PerBuffer,
-) -> usize
-    requires { Fits lent }
-{
-    let lists = load_lists(text, table, start, before);
-    let tables = load_tables(text, start, before);
-    let mut functions = lists.functions;
-    let mut ops = lists.ops;
-    let mut spans = lists.spans;
-    let mut globals = lists.globals;
-    let mut builtins = lists.builtins;
-    let mut switches = tables.switches;
-    let mut targets = tables.targets;
-    let mut lookups = tables.lookups;
-    let mut values = tables.values;
-    let mut places = [MARK; 384];
-    let mut hints = [MARK; 384];
-    let mut noted = [WIDE_MARK; 384];
-    let mut labels = [WIDE_MARK; 3200];
-    let f = lent.functions;
-    let o = lent.ops;
-    let s = lent.spans;
-    let g = lent.globals;
-    let b = lent.builtins;
-    let w = lent.switches;
-    let t = lent.targets;
-    let k = lent.lookups;
-    let v = lent.values;
-    let p = lent.places;
-    let h = lent.hints;
-    let n = lent.noted;
-    let l = lent.labels;
-    let c = compile::compile(
-        ws,
-        &mut functions[..f],
-        &mut ops[..o],
-        &mut spans[..s],
-        &mut globals[..g],
-        &mut builtins[..b],
-        &mut switches[..w],
-        &mut targets[..t],
-        &mut lookups[..k],
-        &mut values[..v],
-        &mut places[..p],
-        &mut hints[..h],
-        &mut noted[..n],
-        &mut labels[..l],
-        used,
-    );
-    let answer = wrong_answer(c, number, wanted, &functions, &entered, f);
-    let code = wrong_lists(
-        text, start, after, rest, lent, &ops, &spans, &globals, &builtins,
-    );
-    let switched = wrong_tables(
-        text, start, after, rest, lent, &switches, &targets, &lookups, &values,
-    );
-    let room = wrong_room(
-        text, start, after, rest, lent, &places, &hints, &noted, &labels,
-    );
-    answer | code | switched | room
-}
-
-// The used lengths after call k.
-fn wanted_of(f: Function, k: usize) -> Used {
-    if k <= EXACT {
-        return f.used;
-    }
-    f.before
+// in every list, and in the work room, which has to be zero.
+fn wrong_buffers(text: &[u8], b: &Buffers, p: Parts, rest: u32) -> usize {
+    wrong_list(text, p.ops, rest, &b.ops, 8)
+        | wrong_list(text, p.spans, rest, &b.spans, 16)
+        | wrong_list(text, p.globals, rest, &b.globals, 32)
+        | wrong_list(text, p.builtins, rest, &b.builtins, 64)
+        | wrong_list(text, p.switches, rest, &b.switches, 128)
+        | wrong_list(text, p.targets, rest, &b.targets, 256)
+        | wrong_list(text, p.lookups, rest, &b.lookups, 512)
+        | wrong_list(text, p.values, rest, &b.values, 1024)
+        | wrong_list(text, p.places, rest, &b.places, 2048)
+        | wrong(replay::zeros(&b.hints, p.hints), 4096)
+        | wrong(replay::zeros(&b.noted, p.noted), 8192)
+        | wrong(replay::zeros(&b.labels, p.labels), 16384)
 }
 
 // The marks are left past the program with the function, and zeros after a refusal.
@@ -521,83 +449,76 @@ fn rest_after(number: usize) -> u32 {
     if number == 0 { MARK } else { 0 }
 }
 
-// The function's words.
-fn words_at(text: &[u8], at: usize, n: usize) -> [u32; 8192]
-    ensures { length result ≡ 8192 }
-{
+// The differences of a call of a function, which leaves the program with it, or after a refusal the one before it.
+fn with_call(text: &[u8], table: [u64; 64], p: Program, f: Function, room: Room) -> usize {
     let mut ws = [0u32; 8192];
-    replay::load32(text, at, &mut ws, n);
-    ws
-}
-
-// The differences of call k of a function, which leaves the program with it, or after a refusal the one before it.
-fn with_call(text: &[u8], table: [u64; 64], p: Program, f: Function, k: usize) -> usize {
-    let ws = words_at(text, f.at, f.words);
-    let n = replay::least(f.words, 8192);
-    let number = either(k <= EXACT, f.number, NO_ROOM);
-    let mapped = either(k <= EXACT, f.mapped, 0);
-    let entries = either(k == 0, p.table, f.table);
-    let before = f.before;
-    let wanted = wanted_of(f, k);
-    let needed = f.used;
-    let mut start = p.start;
-    start.places = f.map;
-    trial(
-        text,
+    replay::load(text, f.at, &mut ws, f.words);
+    let n = f.words.min(8192);
+    let left = left_by(f, room);
+    let entered = table_after(table, left);
+    let parts = parts_of(text, p, f, left, room);
+    let mut b = load(text, table, parts);
+    let c = compile::compile(
         &ws[..n],
-        table,
-        table_after(table, f, number),
-        before,
-        wanted,
-        number,
-        rest_after(number),
-        start,
-        words_for(0, before, 0, 0, EXACT),
-        words_for(0, wanted, mapped, 0, EXACT),
-        words_for(entries, needed, f.values, f.labels, k),
-    )
+        &mut b.functions[..parts.functions],
+        &mut b.ops[..parts.ops.lent],
+        &mut b.spans[..parts.spans.lent],
+        &mut b.globals[..parts.globals.lent],
+        &mut b.builtins[..parts.builtins.lent],
+        &mut b.switches[..parts.switches.lent],
+        &mut b.targets[..parts.targets.lent],
+        &mut b.lookups[..parts.lookups.lent],
+        &mut b.values[..parts.values.lent],
+        &mut b.places[..parts.places.lent],
+        &mut b.hints[..parts.hints],
+        &mut b.noted[..parts.noted],
+        &mut b.labels[..parts.labels],
+        f.before,
+    );
+    wrong_answer(c, f.before, left, &b.functions, &entered, parts.functions)
+        | wrong_buffers(text, &b, parts, rest_after(left.number))
 }
 
-// Each number, with the words that follow it; a semicolon ends these.
-fn tell(numbers: &[usize], words: &[u8]) {
-    let mut i = 0;
-    while i < numbers.len() {
-        replay::number(numbers[i]);
-        opnames::write_name(STDOUT_FILENO, words, i);
-        i += 1;
+// The number of a call.
+fn call_of(room: Room) -> usize {
+    match room {
+        Room::Spare => 0,
+        Room::Exact => 1,
+        Room::Short(buffer) => buffer as usize,
     }
 }
 
 // The first call that differs, and its differences.
-fn report_first(t: Tally, program: usize, function: usize, call: usize, what: usize) {
+fn report_first(t: Tally, program: usize, function: usize, room: Room, what: usize) {
     if (what == 0) | (t.differ != 0) | (t.wrong != 0) {
         return;
     }
-    tell(
-        &[program, function, call, what],
-        b" is the program, ; the function, ; the call, ; what differs\n;",
-    );
+    records::figure(program, b" is the program, ");
+    records::figure(function, b" the function, ");
+    records::figure(call_of(room), b" the call, ");
+    records::figure(what, b" what differs\n");
 }
 
 // One more call of a function, and its differences.
-fn with_result(t: Tally, call: usize, what: usize) -> Tally {
-    let one = either(what == 0, 0, 1);
-    let mut tally = t;
-    match call {
-        0 => {
-            tally.functions = sum(t.functions, 1);
-            tally.differ = sum(t.differ, one);
-        }
-        EXACT => {
-            tally.exact = sum(t.exact, 1);
-            tally.wrong = sum(t.wrong, one);
-        }
-        _ => {
-            tally.short = sum(t.short, 1);
-            tally.wrong = sum(t.wrong, one);
-        }
+fn with_result(t: Tally, room: Room, what: usize) -> Tally {
+    let one = usize::from(what != 0);
+    match room {
+        Room::Spare => Tally {
+            functions: sum(t.functions, 1),
+            differ: sum(t.differ, one),
+            ..t
+        },
+        Room::Exact => Tally {
+            exact: sum(t.exact, 1),
+            wrong: sum(t.wrong, one),
+            ..t
+        },
+        Room::Short(_) => Tally {
+            short: sum(t.short, 1),
+            wrong: sum(t.wrong, one),
+            ..t
+        },
     }
-    tally
 }
 
 // Every call of a function.
@@ -612,14 +533,12 @@ fn replay_function(
 ) -> Tally {
     let calls = calls_of(p, f);
     let mut tally = t;
-    let mut k = 0;
-    while k < calls {
-        if adds_to(f, k) {
-            let what = with_call(text, table, p, f, k);
-            report_first(tally, program, function, k, what);
-            tally = with_result(tally, k, what);
+    for room in &ROOMS[..calls] {
+        if has_call(f, *room) {
+            let what = with_call(text, table, p, f, *room);
+            report_first(tally, program, function, *room, what);
+            tally = with_result(tally, *room, what);
         }
-        k += 1;
     }
     tally
 }
@@ -627,7 +546,6 @@ fn replay_function(
 // All functions of the program in the text; the function table has to end as the Rust's.
 fn replay_program(text: &[u8], t: Tally, program: usize) -> Tally {
     let p = program_of(text);
-    let s = p.start;
     let interned = Used {
         ops: 0,
         globals: p.strings,
@@ -638,56 +556,52 @@ fn replay_program(text: &[u8], t: Tally, program: usize) -> Tally {
         values: 0,
     };
     let mut table = [0u64; 64];
-    replay::load64(text, s.functions, &mut table, p.table);
+    replay::load(text, p.start, &mut table, p.table);
     let mut f = function_at(text, p.first, interned);
     let mut tally = t;
-    let mut done = 0;
-    while done < p.functions {
-        tally = replay_function(text, table, p, f, tally, program, done);
-        table = table_after(table, f, f.number);
-        let used = f.used;
-        f = function_at(text, f.next, used);
-        done += 1;
+    for i in 0..p.functions {
+        tally = replay_function(text, table, p, f, tally, program, i);
+        table = table_after(table, f);
+        f = function_at(text, f.next, f.used);
     }
-    let u = f.before;
-    let what = either(
-        replay::right64(text, p.end, p.table, 0, &table, p.table),
-        0,
-        TABLE,
+    let right = replay::right(text, p.end, p.table, 0, &table, p.table);
+    report_first(
+        tally,
+        program,
+        p.functions,
+        Room::Spare,
+        wrong(right, TABLE),
     );
-    report_first(tally, program, done, 0, what);
-    tally.ops = sum(tally.ops, u.ops);
-    tally.differ = sum(tally.differ, either(what == 0, 0, 1));
-    tally
+    Tally {
+        ops: sum(tally.ops, f.before.ops),
+        differ: sum(tally.differ, wrong(right, 1)),
+        ..tally
+    }
 }
 
 fn report(programs: usize, t: Tally) {
-    tell(
-        &[
-            programs,
-            t.functions,
-            t.ops,
-            t.differ,
-            t.exact,
-            t.short,
-            t.wrong,
-        ],
-        b" programs, ; functions, ; ops, ; differ\n; calls in exactly enough room, ; in one word less, ; differ\n;",
-    );
+    records::figure(programs, b" programs, ");
+    records::figure(t.functions, b" functions, ");
+    records::figure(t.ops, b" ops, ");
+    records::figure(t.differ, b" differ\n");
+    records::figure(t.exact, b" calls in exactly enough room, ");
+    records::figure(t.short, b" in one word less, ");
+    records::figure(t.wrong, b" differ\n");
 }
 
-// The next program of the file into the text: is it there, with its first list behind the 16 words of its head?
-fn next_program(text: &mut [u8]) -> bool {
-    let n = 4 * (replay::next_word() as usize);
-    if text.len() < n {
-        return false;
+// The next program of the file into the text, with its first list behind the 16 words of its head.
+fn next_program(text: &mut [u8]) -> Result<(), CutShort> {
+    let words = replay::next_word() as usize;
+    records::next_bytes(text, 4 * words)?;
+    if replay::word_in(text, 0, 5) == 16 {
+        Ok(())
+    } else {
+        Err(CutShort)
     }
-    let read = replay::next_bytes(&mut text[..n]);
-    read & (replay::word_in(text, 0, 5) == 16)
 }
 
 // All programs.
-fn replay_all(text: &mut [u8]) {
+fn replay_all(text: &mut [u8]) -> Result<(), CutShort> {
     let programs = replay::next_word() as usize;
     let mut t = Tally {
         functions: 0,
@@ -697,26 +611,16 @@ fn replay_all(text: &mut [u8]) {
         short: 0,
         wrong: 0,
     };
-    let mut done = 0;
-    while done < programs {
-        if !next_program(text) {
-            replay::write(b"the file is cut short\n");
-            return;
-        }
-        t = replay_program(text, t, done);
-        done += 1;
+    for i in 0..programs {
+        next_program(text)?;
+        t = replay_program(text, t, i);
     }
-    report(done, t);
-}
-
-// As long as the largest program.
-fn no_text() -> [u8; 163840]
-    ensures { 163840 ≡ length result }
-{
-    [0; 163840]
+    report(programs, t);
+    Ok(())
 }
 
 fn main() {
-    let mut text = no_text();
-    replay_all(&mut text);
+    // as long as the largest program
+    let mut text = records::filled::<u8, 163840>(0);
+    records::report_cut(replay_all(&mut text));
 }

@@ -1,4 +1,5 @@
 -- Demand 3 of what `compile` emits.
+use Rattle.std.specs.Prelude.{Ok}
 use mathlib.Core.Path.{◌≡◌, refl, sym, ap, ◌∙◌}
 use mathlib.Core.Logic.{◌≢◌}
 use Prim.Native.Nat.{ℕ, suc, ◌+◌, ◌*◌, ◌≤◌, ◌<◌}
@@ -11,7 +12,6 @@ use Rattle.machine.specs.Machine.{State, World, run_words}
 use Rattle.machine.specs.Calls.{Kind}
 use Rattle.input.specs.Layout.{head_field, function_id, function_span, pool_from}
 use Rattle.input.specs.Records.{first_instr, instr_count, destination}
-use Rattle.judge.specs.declared.Verdict.TheVariants.{Fit}
 use Rattle.judge.proofs.Verdicts.{AllPass, fit-given}
 use Rattle.assign.specs.Walk.{assigned, place_word, slots_made, top_used}
 use Rattle.sharing.specs.Sharing.{Given, Held, in_register, in_slot, NoSharing}
@@ -51,7 +51,7 @@ module _ (n : ℕ) (lo : 22 ≤ n) (hi : n ≤ 64) (ws : List ℕ) (words : Word
   p = passed n ws b u done
 
   all : AllPass n ws b.functions
-  all = fit-given n ws b.functions Fit (sym p.fit) refl
+  all = fit-given n ws b.functions (Ok tt) (sym p.fit) refl
 
   given : Given n ws
   given =

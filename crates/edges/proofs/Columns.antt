@@ -2,21 +2,14 @@
 use mathlib.Core.Path.{◌≡◌, refl, sym, ap, ◌∙◌}
 use mathlib.Core.Bool.{Bool, true, false}
 use mathlib.Core.List.{List, [], ◌∷◌, ◌++◌, append_assoc, append-nil}
-use Prim.Native.Nat.{ℕ, ◌+◌, ◌<◌}
-use native.Mathlib.Numerals.{add-one}
-use borrow.Author.Tests.{eq-eqb, ne_eqb}
+use Prim.Native.Nat.{ℕ}
 use lib.Dec.{eqb}
-use lib.ListN.{length, take, set}
-use lib.Seq.{take-suc-set}
+use lib.ListN.{take}
 use Rattle.base.specs.Choice.{pick}
 use Rattle.edges.specs.Pairs.{differing_sources, differing_destinations}
 
 pub record Toward (rest whole col : List ℕ) (m : ℕ) : Type 0 where
   pub is : take m col ++ rest ≡ whole
-
--- before the first turn all is left
-pub toward_start : {rest whole : List ℕ} (col : List ℕ) → rest ≡ whole → Toward rest whole col 0
-toward_start col e = record { is = e }
 
 -- a turn adds what comes first
 pub toward_turn : {rest whole col : List ℕ} {m : ℕ} (step rest' col' : List ℕ) (m' : ℕ) → Toward rest whole col m → rest ≡ step ++ rest'
@@ -27,22 +20,6 @@ toward_turn {col = col} {m = m} step rest' col' m' t e f =
 -- where nothing is left the column holds all
 pub toward_end : {rest whole col : List ℕ} {m : ℕ} → Toward rest whole col m → rest ≡ [] → take m col ≡ whole
 toward_end {col = col} {m = m} t e = sym (append-nil (take m col)) ∙ ap (λ (l : List ℕ). take m col ++ l) (sym e) ∙ t.is
-
--- one pair: nothing is added where its places are equal
-pub same_source : (l : List ℕ) (s d : ℕ) → s ≡ d → l ≡ l ++ differing_sources (s ∷ []) (d ∷ [])
-same_source l s d e = rw (eq-eqb s d e) (sym (append-nil l))
-
-pub same-destination : (l : List ℕ) (s d : ℕ) → s ≡ d → l ≡ l ++ differing_destinations (s ∷ []) (d ∷ [])
-same-destination l s d e = rw (eq-eqb s d e) (sym (append-nil l))
-
--- else its source stands behind the sources, its destination behind the destinations
-pub new_source : (col : List ℕ) (m s d : ℕ) → (s ≡ d → ⊥) → m < length col
-    → take (m + 1) (set col m s) ≡ take m col ++ differing_sources (s ∷ []) (d ∷ [])
-new_source col m s d e h = rw (ne_eqb s d e, add-one m) (take-suc-set col m s h)
-
-pub new-destination : (col : List ℕ) (m s d : ℕ) → (s ≡ d → ⊥) → m < length col
-    → take (m + 1) (set col m d) ≡ take m col ++ differing_destinations (s ∷ []) (d ∷ [])
-new-destination col m s d e h = rw (ne_eqb s d e, add-one m) (take-suc-set col m d h)
 
 -- of columns of pairs, the first pair and the others
 more : (t : Bool) (x : ℕ) (xs : List ℕ) → pick t xs (x ∷ xs) ≡ pick t [] (x ∷ []) ++ xs

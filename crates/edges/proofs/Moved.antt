@@ -1,18 +1,18 @@
 -- The moves of arguments for parameters, pair by pair.
 use mathlib.Core.Path.{◌≡◌, refl, sym, ap, ap₂, ◌∙◌}
-use mathlib.Core.Bool.{Bool, true, false, not, ◌&&◌}
-use mathlib.Core.List.{List, [], ◌∷◌, ◌++◌, append-nil}
+use mathlib.Core.Bool.{Bool, true, false}
+use mathlib.Core.List.{List, [], ◌∷◌, ◌++◌}
 use Prim.Native.Nat.{ℕ, zero, suc, ◌+◌, ◌-◌, ◌<◌, ◌≤◌, min}
 use native.Mathlib.Nat.{add_assoc, add-zero, zero-min, min-zero, suc-min-suc}
 use native.Mathlib.Omega.{arith}
 use borrow.Author.Tests.{lt-ltb}
-use lib.Dec.{ltb, eqb}
+use lib.Dec.{ltb}
 use lib.ListN.{length}
 use Rattle.base.specs.Choice.{pick}
 use Rattle.input.specs.Layout.{pool_at, list_at}
 use Rattle.input.specs.Records.{params_at, param_count, edge_target, arguments_at, argument_count}
 use Rattle.fit.specs.Intervals.{unread}
-use Rattle.fit.proofs.Counts.{Counted, counted_start, counted-turn, counted-end}
+use Rattle.fit.proofs.Counts.{Counted, counted-turn, counted-end}
 use Rattle.lower.specs.Operands.{place_at}
 use Rattle.edges.specs.Pairs.{differing_sources, differing_destinations}
 use Rattle.edges.specs.Edges.{read_sources, read_destinations, edge_sources, edge_destinations, has_moves}
@@ -36,15 +36,6 @@ first_to : (u : Bool) (s d : ℕ) (ss ds : List ℕ)
     ≡ differing_destinations (pick u [] (s ∷ [])) (pick u [] (d ∷ [])) ++ differing_destinations ss ds
 first_to true s d ss ds = refl
 first_to false s d ss ds = first-destination s d ss ds
-
--- whether there is a pair at all
-unequal : (u : Bool) (s d : ℕ) → (not u && not (eqb s d)) ≡ ltb 0 (length (differing_sources (pick u [] (s ∷ [])) (pick u [] (d ∷ []))))
-unequal true s d = refl
-unequal false s d = one (eqb s d)
-  where
-    one : (t : Bool) → not t ≡ ltb 0 (length (pick t [] (s ∷ [])))
-    one true = refl
-    one false = refl
 
 -- something of two lists is of the first or of the second
 some_of_lem : (xs ys : List ℕ) → ltb 0 (length (xs ++ ys)) ≡ pick (ltb 0 (length xs)) true (ltb 0 (length ys))
@@ -88,25 +79,6 @@ module _ (ws map : List ℕ) where
           ends = λ (j : ℕ). refl;
         }
 
-  -- one pair: nothing is added for an unread parameter
-  module _ (a p : ℕ) where
-    pub unread-from : (l : List ℕ) → unread ws p ≡ true → l ≡ l ++ moved_from ws map (a ∷ []) (p ∷ [])
-    unread-from l u = rw u (sym (append-nil l))
-
-    pub unread_to : (l : List ℕ) → unread ws p ≡ true → l ≡ l ++ moved_to ws map (a ∷ []) (p ∷ [])
-    unread_to l u = rw u (sym (append-nil l))
-
-    -- else the pair of their places is, unless these are equal
-    pub read_from : unread ws p ≡ false → differing_sources (place_at map a ∷ []) (place_at map p ∷ []) ≡ moved_from ws map (a ∷ []) (p ∷ [])
-    read_from u = rw u
-
-    pub read_to : unread ws p ≡ false → differing_destinations (place_at map a ∷ []) (place_at map p ∷ []) ≡ moved_to ws map (a ∷ []) (p ∷ [])
-    read_to u = rw u
-
-    -- so there is a move where the parameter is read and the places differ
-    pub some-moved : (not (unread ws p) && not (eqb (place_at map a) (place_at map p))) ≡ ltb 0 (length (moved_from ws map (a ∷ []) (p ∷ [])))
-    some-moved = unequal (unread ws p) (place_at map a) (place_at map p)
-
   -- arguments and parameters go in pairs, as many as the shorter list has
   pub sources_paired : (at n to m : ℕ)
       → read_sources ws map (list_at ws at n) (list_at ws to m) ≡ read_sources ws map (list_at ws at (min n m)) (list_at ws to (min n m))
@@ -136,9 +108,6 @@ module _ (ws map : List ℕ) where
 
     abbrev pub some_at : ℕ → Bool
     some_at j = ltb 0 (length (moved_from ws map (pool_at ws (at + j) ∷ []) (pool_at ws (to + j) ∷ [])))
-
-    pub some-start : some_from 0 ≡ some_of
-    some-start = ap (λ (l : List ℕ). ltb 0 (length l)) (counted_start (from-counted at to) n)
 
     some_turn : (j : ℕ) → j < n → some_from j ≡ pick (some_at j) true (some_from (j + 1))
     some_turn j h = ap (λ (l : List ℕ). ltb 0 (length l)) (counted-turn (from-counted at to) n j h)

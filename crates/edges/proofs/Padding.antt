@@ -1,18 +1,17 @@
 -- Pads: the edges from e on that are left, of k.
-use mathlib.Core.Path.{◌≡◌, refl, sym, ap, ◌∙◌}
+use mathlib.Core.Path.{◌≡◌, refl, ap, ◌∙◌}
 use mathlib.Core.Bool.{true, false}
 use Prim.Native.Nat.{ℕ, suc, ◌+◌, ◌-◌, ◌≤◌, ◌<◌}
 use mathlib.Core.List.{List}
 use native.Mathlib.Nat.{add_assoc, add-zero}
 use native.Mathlib.Omega.{arith}
-use borrow.Author.Tests.{eq-eqb, ne_eqb}
 use lib.Dec.{eqb}
 use Rattle.base.specs.Choice.{pick}
 use Rattle.base.specs.declared.Pen.{Pen}
 use Rattle.base.specs.Emission.{Out, bind}
 use Rattle.base.specs.Lent.{Lowers}
 use Rattle.base.proofs.Pens.{then, renamed}
-use Rattle.fit.proofs.Counts.{Counted, counted_start, counted-turn, counted-end}
+use Rattle.fit.proofs.Counts.{Counted, counted-turn, counted-end}
 use Rattle.edges.specs.Edges.{has_moves, nowhere, edge, pad_count, pads, switch_edges}
 
 module _ (ws map : List ℕ) (e : ℕ) where
@@ -32,9 +31,6 @@ module _ (ws map : List ℕ) (e : ℕ) where
     abbrev pub count_from : ℕ → ℕ
     count_from i = pad_count ws map (e + i) (k - i)
 
-    pub count-start : count_from 0 ≡ pad_count ws map e k
-    count-start = counted_start pads-counted k
-
     pub count_pad : (i : ℕ) → i < k → has_moves ws map (e + i) ≡ true → count_from i ≡ 1 + count_from (i + 1)
     count_pad i h t = counted-turn pads-counted k i h ∙ rw t
 
@@ -49,9 +45,6 @@ module _ (ws map : List ℕ) (e : ℕ) where
     abbrev pub pads_from : ℕ → ℕ → Out → Out
     pads_from pad i = pads n ws map pad (e + i) (k - i)
 
-    pub pads-start : (label : ℕ) (q : Out) → pads_from label 0 q ≡ pads n ws map label e k q
-    pads-start label q = let h : k - 0 ≡ k = omega arith in rw (h, add-zero e)
-
     pub pads_pad : (pad i : ℕ) → i < k → has_moves ws map (e + i) ≡ true → {none : ℕ} → none ≡ nowhere ws → (q : Out)
         → pads_from pad i q ≡ pads_from (pad + 1) (i + 1) (edge n ws map none (e + i) (bind pad q))
     unfolding pads
@@ -64,14 +57,6 @@ module _ (ws map : List ℕ) (e : ℕ) where
     pub pads-end : (pad i : ℕ) → k ≤ i → (q : Out) → pads_from pad i q ≡ q
     unfolding pads
     pads-end pad i h q = let g : k - i ≡ 0 = omega arith in rw g
-
--- without pads the default edge may fall through, with pads it may not
-module _ {count pads : ℕ} (after blocks : ℕ) (e : count ≡ pads) where
-  pub no_pads : count ≡ 0 → after ≡ pick (eqb pads 0) after blocks
-  no_pads h = rw (eq-eqb pads 0 (sym e ∙ h))
-
-  pub some-pads : (count ≡ 0 → ⊥) → blocks ≡ pick (eqb pads 0) after blocks
-  some-pads h = rw (ne_eqb pads 0 (λ (k : pads ≡ 0). h (e ∙ k)))
 
 -- the default edge, then the pads
 pub switch_edges_lem : (n : ℕ) (ws map : List ℕ) (label next e cases : ℕ) {after : ℕ} {o b l o₁ b₁ o₂ b₂ l' : List ℕ} {p p₁ p₂ : Pen}

@@ -1,7 +1,7 @@
 // Edges and branches: the moves of an edge, its Jmp, and the labels of those that don't fall through.
 #![tactic(auto)]
 
-ghost use Rattle.std.specs.Prelude.{◌≡◌, List, [], ◌∷◌, ◌++◌, ℕ, ◌+◌, ◌≤◌, ◌<◌, min, ltb, eqb, length, take};
+ghost use Rattle.std.specs.Prelude.{◌≡◌, List, [], ◌∷◌, ◌++◌, ℕ, ◌+◌, ◌≤◌, ◌<◌, ltb, eqb, length, take};
 ghost use Rattle.base.specs.Choice.{pick};
 ghost use Rattle.base.specs.Lent.{Lowers};
 ghost use Rattle.place.specs.Registers.{registers};
@@ -34,9 +34,7 @@ pub fn add_pair(src: &mut [u32], dst: &mut [u32], m: usize, s: u32, d: u32) -> u
 fn is_unread(ws: &[u32], p: u32) -> bool
     ensures { result ≡ unread ws.now p }
 {
-    let start = input::value_field(ws, p, 0);
-    let end = input::value_field(ws, p, 1);
-    start == end
+    input::value_field(ws, p, 0) == input::value_field(ws, p, 1)
 }
 
 // The pair of an argument and a parameter behind the first m of two columns, unless it needs no move.
@@ -74,21 +72,12 @@ fn gather(
     ensures { (result ≤ n) × (take result src.new ≡ differing_sources (read_sources ws.now map.now (list_at ws.now at n) (list_at ws.now to n)) (read_destinations ws.now map.now (list_at ws.now at n) (list_at ws.now to n))) × (take result dst.new ≡ differing_destinations (read_sources ws.now map.now (list_at ws.now at n) (list_at ws.now to n)) (read_destinations ws.now map.now (list_at ws.now at n) (list_at ws.now to n))) }
 {
     let mut m = 0;
-    let mut j = 0;
-    while j < n {
+    for j in 0..n {
         let a = input::pool_at(ws, at, j);
         let p = input::pool_at(ws, to, j);
         m = add_argument(ws, map, src, dst, m, a, p);
-        j += 1;
     }
     m
-}
-
-// The shorter of two counts.
-fn shorter(n: u32, m: u32) -> u32
-    ensures { result ≡ min n m }
-{
-    if n < m { n } else { m }
 }
 
 // The moves of an edge, at the front of two columns; how many they are.
@@ -101,31 +90,26 @@ fn gather_edge(ws: &[u32], map: &[u32], e: u32, src: &mut [u32], dst: &mut [u32]
     let to = input::block_field(ws, target, 2);
     let arguments = input::edge_field(ws, e, 2);
     let parameters = input::block_field(ws, target, 3);
-    gather(ws, map, src, dst, at, to, shorter(arguments, parameters))
+    gather(ws, map, src, dst, at, to, arguments.min(parameters))
 }
 
 // Does an argument need a move to its parameter?
 fn is_moved(ws: &[u32], map: &[u32], a: u32, p: u32) -> bool
     ensures { result ≡ ltb 0 (length (differing_sources (read_sources ws.now map.now (a ∷ []) (p ∷ [])) (read_destinations ws.now map.now (a ∷ []) (p ∷ [])))) }
 {
-    let read = !is_unread(ws, p);
-    let s = lower::place_at(map, a);
-    let d = lower::place_at(map, p);
-    read & (s != d)
+    !is_unread(ws, p) && lower::place_at(map, a) != lower::place_at(map, p)
 }
 
 // Does one of n arguments from `at` on for as many parameters from `to` on?
 fn any_moved(ws: &[u32], map: &[u32], at: u32, to: u32, n: u32) -> bool
     ensures { result ≡ ltb 0 (length (differing_sources (read_sources ws.now map.now (list_at ws.now at n) (list_at ws.now to n)) (read_destinations ws.now map.now (list_at ws.now at n) (list_at ws.now to n)))) }
 {
-    let mut j = 0;
-    while j < n {
+    for j in 0..n {
         let a = input::pool_at(ws, at, j);
         let p = input::pool_at(ws, to, j);
         if is_moved(ws, map, a, p) {
             return true;
         }
-        j += 1;
     }
     false
 }
@@ -139,7 +123,7 @@ pub fn has_moves(ws: &[u32], map: &[u32], e: u32) -> bool
     let to = input::block_field(ws, target, 2);
     let arguments = input::edge_field(ws, e, 2);
     let parameters = input::block_field(ws, target, 3);
-    any_moved(ws, map, at, to, shorter(arguments, parameters))
+    any_moved(ws, map, at, to, arguments.min(parameters))
 }
 
 // The moves of an edge, then Jmp, which is dropped when the target is the next live block.
@@ -155,8 +139,8 @@ pub fn put_edge(
     requires { param_count ws.now (edge_target ws.now e) ≤ 190 }
     ensures { (l : List ℕ) → Lowers (edge registers ws.now map.now next e) ops.old spans.old l p ops.new spans.new l result }
 {
-    let mut src = [0u32; MOST_MOVES];
-    let mut dst = [0u32; MOST_MOVES];
+    let mut src = [0; MOST_MOVES];
+    let mut dst = [0; MOST_MOVES];
     let n = gather_edge(ws, map, e, &mut src, &mut dst);
     let q = moves_code::put_moves(ops, spans, p, &mut src, &mut dst, n);
     let target = input::edge_field(ws, e, 0);
@@ -208,12 +192,10 @@ pub fn pad_count(ws: &[u32], map: &[u32], e: u32, k: u32) -> u32
     ensures { result ≡ pad_count ws.now map.now e k }
 {
     let mut count = 0;
-    let mut i = 0;
-    while i < k {
+    for i in 0..k {
         if has_moves(ws, map, e + i) {
             count += 1;
         }
-        i += 1;
     }
     count
 }
@@ -236,14 +218,12 @@ fn put_pads(
     let nowhere = input::head_field(ws, 4);
     let mut q = p;
     let mut pad = label;
-    let mut i = 0;
-    while i < k {
+    for i in 0..k {
         if has_moves(ws, map, e + i) {
             base::bind_label(labels, pad as usize, q);
             q = put_edge(ops, spans, q, ws, map, nowhere, e + i);
             pad += 1;
         }
-        i += 1;
     }
     q
 }

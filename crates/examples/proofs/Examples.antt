@@ -2,14 +2,13 @@
 use mathlib.Core.Path.{◌≡◌, refl}
 use Prim.Native.Nat.{ℕ, ◌+◌, ◌-◌, ◌^◌}
 use mathlib.Core.List.{[], ◌∷◌}
+use Rattle.std.specs.Prelude.{Option, Some, None}
 use Rattle.base.specs.Masks.{has_bit, with_bit, without_bit}
 use Rattle.base.specs.Emission.{Out, emit}
+use Rattle.place.specs.declared.Place.{Place}
 use Rattle.place.specs.declared.Reg.TheVariants.{Gpr}
 use Rattle.place.specs.declared.Place.TheVariants.{Slot, Register}
 use Rattle.place.specs.Places.{slots_from, found_of}
-use Rattle.alloc.specs.declared.Hint.TheVariants as hint
-use Rattle.alloc.specs.declared.Got.{Got}
-use Rattle.alloc.specs.declared.Got.TheVariants as got
 use Rattle.alloc.specs.State.{mask_of, fresh_of}
 use Rattle.alloc.specs.Allocation.{kept_of, gone_of, free_reg, free_slot, release, release_all, expire_of, is_free, take_reg, last_free, take_slot, from_pool, hinted, take_of, enter, new_place, place_of}
 use Rattle.op.specs.Words.{word}
@@ -50,18 +49,18 @@ unfolding parked_in parks_in turn_sources turn_destinations turn_parks swap_remo
 parked_3 = refl
 
 -- 4: one general register, number 3; a value is placed at 0 with an end, then another at 5, whose place this is
-unfoldable pub second : ℕ → Got
+unfoldable pub second : ℕ → Option Place
 second end =
-    (place_of (0 ∷ 0 ∷ []) 1 0 5 9 hint.Nowhere (3 ∷ [])
-    (place_of (0 ∷ 0 ∷ []) 0 0 0 end hint.Nowhere (3 ∷ []) (fresh_of (3 ∷ []) [])).state).got
+    (place_of (0 ∷ 0 ∷ []) 1 0 5 9 None (3 ∷ [])
+    (place_of (0 ∷ 0 ∷ []) 0 0 0 end None (3 ∷ []) (fresh_of (3 ∷ []) [])).state).got
 
 -- end 5, allocate at 5: the register is reused
-pub example_4_reused : second 5 ≡ got.At (Register (Gpr 3))
+pub example_4_reused : second 5 ≡ Some (Register (Gpr 3))
 unfolding second place_of new_place enter take_of from_pool last_free expire_of kept_of gone_of release_all release free_reg free_slot take_reg take_slot is_free hinted fresh_of mask_of found_of has_bit with_bit without_bit
 example_4_reused = refl
 
 -- end 6: not
-pub example_4_kept : second 6 ≡ got.At (Slot 0)
+pub example_4_kept : second 6 ≡ Some (Slot 0)
 unfolding second place_of new_place enter take_of from_pool last_free expire_of kept_of gone_of release_all release free_reg free_slot take_reg take_slot is_free hinted fresh_of mask_of found_of has_bit with_bit without_bit
 example_4_kept = refl
 

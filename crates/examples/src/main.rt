@@ -1,121 +1,96 @@
 // Prints document 01's examples as the code answers them. proofs/Examples.antt proves those marked * there, about the definitions.
 #![tactic(auto)]
 
-use moves_entry::{Columns, Emitted};
+ghost use Rattle.std.specs.Prelude.{◌≤◌, length};
+
+use moves_entry::Columns;
 use op::Op;
-
-// The number of standard output.
-const STDOUT_FILENO: i32 = 1;
-
-fn write(text: &[u8]) {
-    io::write_all(STDOUT_FILENO, text);
-}
-
-fn number(n: u64) {
-    io::print_decimal(STDOUT_FILENO, n);
-}
+use opnames::Stream;
+use refusal::Refusal;
+use std::fmt;
+use std::fmt::Write;
 
 // A register by its name on a machine with 32 registers.
-fn register(r: u8) {
-    if r == 31 {
-        write(b"SCRATCH");
-    } else if r == 30 {
-        write(b"TMP");
-    } else {
-        write(b"g");
-        number(r as u64);
+#[derive(Clone, Copy)]
+struct Register(u8);
+
+impl fmt::Display for Register {
+    fn fmt<W: fmt::Write>(&self, f: &mut fmt::Formatter<W>) -> fmt::Result {
+        match self.0 {
+            31 => write!(f, "SCRATCH"),
+            30 => write!(f, "TMP"),
+            r => write!(f, "g{r}"),
+        }
     }
-}
-
-fn slot(k: u32) {
-    write(b"s");
-    number(k as u64);
-}
-
-fn mov(o: Op) {
-    write(b" mov ");
-    register(o.a);
-    write(b" ");
-    register(o.b);
-}
-
-fn load(o: Op) {
-    write(b" load ");
-    register(o.a);
-    write(b" ");
-    slot(o.w);
-}
-
-fn store(o: Op) {
-    write(b" store ");
-    slot(o.w);
-    write(b" ");
-    register(o.a);
 }
 
 // A move's op.
-fn show(word: u64) {
-    let o = op::unpack(word);
-    let code = o.code;
-    match code {
-        2 => mov(o),
-        25 => load(o),
-        24 => store(o),
-        _ => write(b" ?"),
-    }
-}
+#[derive(Clone, Copy)]
+struct Shown(Op);
 
-// The first n of the ops, with a semicolon between.
-fn show_all(ops: &[u64], n: usize) {
-    let mut i = 0;
-    while i < n {
-        show(base::get64(ops, i));
-        if i + 1 < n {
-            write(b";");
+impl fmt::Display for Shown {
+    fn fmt<W: fmt::Write>(&self, f: &mut fmt::Formatter<W>) -> fmt::Result {
+        let o = self.0;
+        let a = Register(o.a);
+        match o.code {
+            2 => write!(f, "mov {a} {}", Register(o.b)),
+            25 => write!(f, "load {a} s{}", o.w),
+            24 => write!(f, "store s{} {a}", o.w),
+            _ => write!(f, "?"),
         }
-        i += 1;
     }
-    write(b"\n");
 }
 
-fn refusal(n: u64) {
-    write(b" refused with ");
-    number(n);
-    write(b"\n");
+// The ops with a semicolon between.
+fn show_all(ops: &[u64]) -> fmt::Result {
+    for (i, word) in ops.iter().enumerate() {
+        let between = if i == 0 { "" } else { ";" };
+        write!(Stream::Output, "{between} {}", Shown(op::unpack(*word)))?;
+    }
+    writeln!(Stream::Output)
 }
 
-fn example(name: &[u8], c: Columns) {
-    write(name);
+fn refused(why: Refusal) -> fmt::Result {
+    writeln!(Stream::Output, " refused with {}", why.number())
+}
+
+fn example(name: &str, moves: &[(u32, u32)]) -> fmt::Result
+    requires { length moves.now ≤ 190 }
+{
+    write!(Stream::Output, "{name}:")?;
     let mut ops = [0u64; 16];
     let mut spans = [0u32; 16];
-    match moves_entry::emit_columns(&mut ops, &mut spans, 0, 0, c) {
-        Emitted::Done(n) => show_all(&ops, n),
-        Emitted::TooMany => refusal(2),
-        Emitted::NoRoom => refusal(9),
-        Emitted::BadMove => refusal(10),
+    match moves_entry::emit_columns(&mut ops, &mut spans, 0, 0, columns(moves)) {
+        Ok(n) => show_all(&ops[..n.min(16)]),
+        Err(why) => refused(why),
     }
 }
 
-// Columns of three moves, or the first `count` of them.
-fn columns(count: usize, s0: u32, d0: u32, s1: u32, d1: u32, s2: u32, d2: u32) -> Columns {
+// Columns of these moves, each from a place to a place.
+fn columns(moves: &[(u32, u32)]) -> Columns
+    requires { length moves.now ≤ 190 }
+{
     let mut c = Columns {
         src: [0u32; 190],
         dst: [0u32; 190],
-        count: count,
+        count: moves.len(),
     };
-    c.src[0] = s0;
-    c.src[1] = s1;
-    c.src[2] = s2;
-    c.dst[0] = d0;
-    c.dst[1] = d1;
-    c.dst[2] = d2;
+    for (i, (src, dst)) in moves.iter().enumerate() {
+        c.src[i] = *src;
+        c.dst[i] = *dst;
+    }
     c
 }
 
+fn all_examples() -> fmt::Result {
+    example("1. g0>g1, g1>g0, s2>g5", &[(0, 1), (1, 0), (258, 5)])?;
+    example("2. g0>g4, g1>g5, g2>g6", &[(0, 4), (1, 5), (2, 6)])?;
+    example("3. s0>s1, s1>s0", &[(256, 257), (257, 256)])?;
+    example("Trap: g0>g1, g1>g1", &[(0, 1), (1, 1)])?;
+    example("Trap: g5>g0, g0>g1, g1>g0", &[(5, 0), (0, 1), (1, 0)])
+}
+
+// A stream's writes are always done.
 fn main() {
-    example(b"1. g0>g1, g1>g0, s2>g5:", columns(3, 0, 1, 1, 0, 258, 5));
-    example(b"2. g0>g4, g1>g5, g2>g6:", columns(3, 0, 4, 1, 5, 2, 6));
-    example(b"3. s0>s1, s1>s0:", columns(2, 256, 257, 257, 256, 0, 0));
-    example(b"Trap: g0>g1, g1>g1:", columns(2, 0, 1, 1, 1, 0, 0));
-    example(b"Trap: g5>g0, g0>g1, g1>g0:", columns(3, 5, 0, 0, 1, 1, 0));
+    let _ = all_examples();
 }

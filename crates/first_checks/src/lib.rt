@@ -1,18 +1,17 @@
 // What compiling judges before it writes anything: words, used lengths, refusals 1 to 7, labels and an entry in the function table.
 #![tactic(auto)]
 
-ghost use Rattle.std.specs.Prelude.{◌≡◌, eqb};
+ghost use Rattle.std.specs.Prelude.{◌≡◌};
 ghost use Rattle.base.specs.Choice.{pick};
 ghost use Rattle.place.specs.Registers.{registers};
+ghost use Rattle.refusal.specs.Numbers.{number_for};
 ghost use Rattle.input.specs.Forms.{words_ok};
 ghost use Rattle.judge.specs.Judged.{unfit};
 ghost use Rattle.first_checks.specs.Buffers.{Buffers};
 ghost use Rattle.first_checks.specs.Checks.{used_ok, entry_ok, Sized};
 
-use lists::Used;
-
-// The most of a kind in a program.
-const MOST: usize = 65534;
+use lists::{MOST_OF_A_KIND, Used};
+use refusal::Refusal;
 
 // The lengths of the lent buffers.
 #[derive(Clone, Copy)]
@@ -43,18 +42,18 @@ fn used_ok(n: Lengths, u: Used) -> bool
         & used::slots_within(2, u.values, n.values)
 }
 
-// Refusals 1 to 7, 0 for none.
-pub fn early(ws: &[u32], functions: &[u64], n: Lengths, u: Used) -> u8
-    ensures { (b : Buffers) → Sized n b → result ≡ pick (words_ok ws.now) (pick (used_ok b u) (unfit registers ws.now functions.now) 2) 1 }
+// Refusals 1 to 7, and used lengths.
+pub fn early(ws: &[u32], functions: &[u64], n: Lengths, u: Used) -> Result<(), Refusal>
+    ensures { (b : Buffers) → Sized n b → number_for result ≡ pick (words_ok ws.now) (pick (used_ok b u) (unfit registers ws.now functions.now) 2) 1 }
 {
-    let v = judge::number_of(judge::judge(ws, functions));
-    if v == 1 {
-        return 1;
+    let v = judge::judge(ws, functions);
+    if refusal::number_for(v) == 1 {
+        return v;
     }
     if used_ok(n, u) {
         return v;
     }
-    2
+    Err(Refusal::TooMany)
 }
 
 // Labels, and an entry in the function table.
@@ -63,18 +62,15 @@ fn enough(ws: &[u32], n: Lengths) -> bool
 {
     let labels = used::labels_for(ws);
     let id = input::head_field(ws, 0) as usize;
-    (labels <= n.labels) & (id < n.functions) & (id < MOST)
+    (labels <= n.labels) & (id < n.functions) & (id < MOST_OF_A_KIND)
 }
 
-// 9 where they are not enough, unless a number says that the function is refused already.
-pub fn with_entry(k: u8, ws: &[u32], n: Lengths) -> u8
-    ensures { (b : Buffers) → Sized n b → result ≡ pick (eqb k 0) (pick (entry_ok ws.now b) 0 9) k }
+// 9 where they are not enough.
+pub fn with_entry(ws: &[u32], n: Lengths) -> Result<(), Refusal>
+    ensures { (b : Buffers) → Sized n b → number_for result ≡ pick (entry_ok ws.now b) 0 9 }
 {
-    if k != 0 {
-        return k;
-    }
     if enough(ws, n) {
-        return 0;
+        return Ok(());
     }
-    9
+    Err(Refusal::NoRoom)
 }

@@ -1,6 +1,6 @@
 -- One law for every loop that counts from 0 to n, over a list of the pool or over edges.
-use Rattle.std.proofs.Common.{◌≡◌, ℕ, zero, suc, ◌+◌, ◌-◌, ◌<◌, ◌≤◌, Bool, true, false, sym, ap, ◌∙◌, arith}
-use Rattle.input.specs.Forms.{both}
+use Rattle.std.proofs.Common.{◌≡◌, ℕ, zero, suc, ◌+◌, ◌-◌, ◌<◌, ◌≤◌, Bool, true, sym, ap, ◌∙◌, arith}
+use Rattle.input.specs.Forms.{both, each}
 
 -- F j k speaks of the k things from the j-th on, whole n of all n of them, and a step goes from one to the next
 pub record Counted {A : Type 0} (F : ℕ → ℕ → A) (whole : ℕ → A) (last : A) (step : ℕ → A → A) : Type 0 where
@@ -19,18 +19,13 @@ module _ {A : Type 0} {F : ℕ → ℕ → A} {whole : ℕ → A} {last : A} {st
   counted-end j h = let e : n - j ≡ 0 = omega arith in ap (F j) e ∙ law.ends j
 
 -- a check of each
-pub record Checked (F : ℕ → ℕ → Bool) (whole : ℕ → Bool) (ok : ℕ → Bool) : Type 0 where
+pub record Checked (F : ℕ → ℕ → Bool) (whole ok : ℕ → Bool) : Type 0 where
   pub law : Counted F whole true (λ (j : ℕ). both (ok j))
 
-module _ {F : ℕ → ℕ → Bool} {whole : ℕ → Bool} {ok : ℕ → Bool} (all : Checked F whole ok) (n j : ℕ) where
-  -- it fails at one that fails
-  pub check_fails : j < n → ok j ≡ false → F j (n - j) ≡ whole n → false ≡ whole n
-  check_fails h e i = sym (counted-turn all.law n j h ∙ ap (λ (b : Bool). both b (F (j + 1) (n - (j + 1)))) e) ∙ i
-
-  -- goes on behind one that holds
-  pub check_goes : j < n → ok j ≡ true → F j (n - j) ≡ whole n → F (j + 1) (n - (j + 1)) ≡ whole n
-  check_goes h e i = sym (counted-turn all.law n j h ∙ ap (λ (b : Bool). both b (F (j + 1) (n - (j + 1)))) e) ∙ i
-
-  -- and holds at the end
-  pub check_ends : n ≤ j → F j (n - j) ≡ whole n → true ≡ whole n
-  check_ends h i = sym (counted-end all.law n j h) ∙ i
+-- is the check of the first n numbers
+pub checked_each : {F : ℕ → ℕ → Bool} {whole ok : ℕ → Bool} → Checked F whole ok → (n : ℕ) → whole n ≡ each ok 0 n
+unfolding each
+checked_each {F} {whole} {ok} all n = sym (all.law.starts n) ∙ from 0 n where
+  from : (j k : ℕ) → F j k ≡ each ok j k
+  from j zero = all.law.ends j
+  from j (suc k) = all.law.turns j k ∙ ap (both (ok j)) (from (j + 1) k)

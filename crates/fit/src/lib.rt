@@ -12,18 +12,7 @@ ghost use Rattle.fit.specs.Tabled.{Tabled, marks, mark, marked};
 ghost use Rattle.fit.specs.Callees.{known, row_callee};
 ghost use Rattle.fit.specs.Keys.{ranked, keys_at, keys_ok, row_keys};
 
-// The kinds that these checks ask for: two of instructions,
-const CALL: u32 = 3;
-
-const LOOKUP: u32 = 11;
-
-// two of terminators,
-const TAIL: u32 = 6;
-
-const SWITCH: u32 = 7;
-
-// and one of constants.
-const INT: u32 = 3;
+use input::kinds;
 
 // The most slots of one table.
 const MOST_TABLE_SLOTS: u64 = 4096;
@@ -34,61 +23,29 @@ fn fit_def(ws: &[u32], r: u32, v: u32) -> bool
 {
     let start = input::value_field(ws, v, 0);
     let end = input::value_field(ws, v, 1);
-    if start == 4294967295 {
-        return false;
-    }
-    if end < start {
-        return false;
-    }
-    if r < end {
-        return start < end;
-    }
-    end <= start
+    start != u32::MAX && start <= end && (r < end) == (start < end)
 }
 
 // So do the n values that the pool lists from `at` on.
 fn fit_defs(ws: &[u32], r: u32, at: u32, n: u32) -> bool
     ensures { result ≡ fit_defs ws.now (refs r (list_at ws.now at n)) }
 {
-    let mut j = 0;
-    while j < n {
-        let v = input::pool_at(ws, at, j);
-        if !fit_def(ws, r, v) {
-            return false;
-        }
-        j += 1;
-    }
-    true
+    (0..n).all(|j| fit_def(ws, r, input::pool_at(ws, at, j)))
 }
 
 // A use: the value's row is earlier, and its end is at or after this row.
 fn fit_use(ws: &[u32], rows: &[u32], r: u32, v: u32) -> bool
     ensures { (ds : List Ref) → Tabled rows.now ds → result ≡ fit_use ws.now ds (ref r v) }
 {
-    let next = base::get32(rows, v as usize);
-    if next == 0 {
-        return false;
-    }
-    if r < next {
-        return false;
-    }
-    let end = input::value_field(ws, v, 1);
-    r <= end
+    let next = base::get_or(rows, v as usize, 0);
+    next != 0 && next <= r && r <= input::value_field(ws, v, 1)
 }
 
 // So do the uses of the n values that the pool lists from `at` on.
 fn fit_uses(ws: &[u32], rows: &[u32], r: u32, at: u32, n: u32) -> bool
     ensures { (ds : List Ref) → Tabled rows.now ds → result ≡ fit_uses ws.now ds (refs r (list_at ws.now at n)) }
 {
-    let mut j = 0;
-    while j < n {
-        let v = input::pool_at(ws, at, j);
-        if !fit_use(ws, rows, r, v) {
-            return false;
-        }
-        j += 1;
-    }
-    true
+    (0..n).all(|j| fit_use(ws, rows, r, input::pool_at(ws, at, j)))
 }
 
 // An argument for an unread parameter is exempt.
@@ -97,26 +54,18 @@ fn fit_arg(ws: &[u32], rows: &[u32], r: u32, a: u32, p: u32) -> bool
 {
     let start = input::value_field(ws, p, 0);
     let end = input::value_field(ws, p, 1);
-    if start == end {
-        return true;
-    }
-    fit_use(ws, rows, r, a)
+    start == end || fit_use(ws, rows, r, a)
 }
 
 // The n arguments from `at` on, for as many parameters from `to` on.
 fn fit_args(ws: &[u32], rows: &[u32], r: u32, at: u32, to: u32, n: u32) -> bool
     ensures { (ds : List Ref) → Tabled rows.now ds → result ≡ fit_args ws.now ds r (list_at ws.now at n) (list_at ws.now to n) }
 {
-    let mut j = 0;
-    while j < n {
+    (0..n).all(|j| {
         let a = input::pool_at(ws, at, j);
         let p = input::pool_at(ws, to, j);
-        if !fit_arg(ws, rows, r, a, p) {
-            return false;
-        }
-        j += 1;
-    }
-    true
+        fit_arg(ws, rows, r, a, p)
+    })
 }
 
 // Field k of the edge j places behind the first: their sum may pass 32 bits.
@@ -124,17 +73,11 @@ fn edge_at(ws: &[u32], first: u32, j: u32, k: u32) -> u32
     ensures { result ≡ edge_field ws.now (first + j) k }
 {
     let from = input::head_field(ws, 11) as usize;
-    base::get32(
+    base::get_or(
         ws,
         from + 3 * ((first as usize) + (j as usize)) + (k as usize),
+        0,
     )
-}
-
-// The shorter of two counts.
-fn shorter(n: u32, m: u32) -> u32
-    ensures { result ≡ min n m }
-{
-    if n < m { n } else { m }
 }
 
 // The arguments of that edge.
@@ -146,21 +89,14 @@ fn fit_edge(ws: &[u32], rows: &[u32], r: u32, first: u32, j: u32) -> bool
     let n = edge_at(ws, first, j, 2);
     let to = input::block_field(ws, target, 2);
     let m = input::block_field(ws, target, 3);
-    fit_args(ws, rows, r, at, to, shorter(n, m))
+    fit_args(ws, rows, r, at, to, n.min(m))
 }
 
 // The n edges from the first on.
 fn fit_edges(ws: &[u32], rows: &[u32], r: u32, first: u32, n: u32) -> bool
     ensures { (ds : List Ref) → Tabled rows.now ds → result ≡ fit_edges ws.now ds r first n }
 {
-    let mut j = 0;
-    while j < n {
-        if !fit_edge(ws, rows, r, first, j) {
-            return false;
-        }
-        j += 1;
-    }
-    true
+    (0..n).all(|j| fit_edge(ws, rows, r, first, j))
 }
 
 // Refusal 5 of a row of parameters.
@@ -178,14 +114,8 @@ pub fn fit_instr(ws: &[u32], rows: &[u32], i: u32, r: u32) -> bool
 {
     let at = input::instr_field(ws, i, 3);
     let n = input::instr_field(ws, i, 4);
-    if !fit_uses(ws, rows, r, at, n) {
-        return false;
-    }
     let d = input::instr_field(ws, i, 2);
-    if d == 0 {
-        return true;
-    }
-    fit_def(ws, r, d - 1)
+    fit_uses(ws, rows, r, at, n) && (d == 0 || fit_def(ws, r, d - 1))
 }
 
 // Refusal 5 of a terminator's row, by the table of rows.
@@ -194,23 +124,20 @@ pub fn fit_term(ws: &[u32], rows: &[u32], b: u32, r: u32) -> bool
 {
     let at = input::block_field(ws, b, 8);
     let n = input::block_field(ws, b, 9);
-    if !fit_uses(ws, rows, r, at, n) {
-        return false;
-    }
     let first = input::block_field(ws, b, 10);
     let count = input::block_field(ws, b, 11);
-    fit_edges(ws, rows, r, first, count)
+    fit_uses(ws, rows, r, at, n) && fit_edges(ws, rows, r, first, count)
 }
 
 // Refusal 4. The row of one definition goes into the table, unless one stands there.
 fn define(table: &mut [u32], v: u32, r: u16) -> bool
     ensures { marks table.new result ≡ mark (ref r v) (marks table.old true) }
 {
-    let next = base::get32(table, v as usize);
+    let next = base::get_or(table, v as usize, 0);
     if next != 0 {
         return false;
     }
-    base::set32(table, v as usize, (r as u32) + 1);
+    base::set(table, v as usize, (r as u32) + 1);
     true
 }
 
@@ -220,13 +147,11 @@ pub fn define_params(ws: &[u32], table: &mut [u32], b: u32, r: u16) -> bool
 {
     let at = input::block_field(ws, b, 2);
     let n = input::block_field(ws, b, 3);
-    let mut j = 0;
-    while j < n {
+    for j in 0..n {
         let v = input::pool_at(ws, at, j);
         if !define(table, v, r) {
             return false;
         }
-        j += 1;
     }
     true
 }
@@ -236,43 +161,30 @@ pub fn define_instr(ws: &[u32], table: &mut [u32], i: u32, r: u16) -> bool
     ensures { marks table.new result ≡ marked (row_defs ws.now r (instr i)) (marks table.old true) }
 {
     let d = input::instr_field(ws, i, 2);
-    if d == 0 {
-        return true;
-    }
-    define(table, d - 1, r)
+    d == 0 || define(table, d - 1, r)
 }
 
 // Refusal 6. The callee is the function itself or stands in the table.
 fn is_known(ws: &[u32], functions: &[u64], f: u32) -> bool
     ensures { result ≡ known ws.now functions.now f }
 {
-    if f == input::head_field(ws, 0) {
-        return true;
-    }
-    let word = base::get64(functions, f as usize);
-    0 < program::kind_of(word)
+    f == input::head_field(ws, 0) || 0 < program::kind_of(base::get_or(functions, f as usize, 0))
 }
 
 // Refusal 6 of an instruction's row, whatever its number.
 pub fn callee_instr(ws: &[u32], functions: &[u64], i: u32) -> bool
     ensures { (r : ℕ) → result ≡ row_callee ws.now functions.now r (instr i) }
 {
-    if input::instr_field(ws, i, 0) != CALL {
-        return true;
-    }
-    let f = input::instr_field(ws, i, 5);
-    is_known(ws, functions, f)
+    input::instr_field(ws, i, 0) != kinds::instr::CALL
+        || is_known(ws, functions, input::instr_field(ws, i, 5))
 }
 
 // Refusal 6 of a terminator's row, whatever its number.
 pub fn callee_term(ws: &[u32], functions: &[u64], b: u32) -> bool
     ensures { (r : ℕ) → result ≡ row_callee ws.now functions.now r (term b) }
 {
-    if input::block_field(ws, b, 6) != TAIL {
-        return true;
-    }
-    let f = input::block_field(ws, b, 12);
-    is_known(ws, functions, f)
+    input::block_field(ws, b, 6) != kinds::term::TAIL
+        || is_known(ws, functions, input::block_field(ws, b, 12))
 }
 
 // Field k of a constant: its number may pass 32 bits.
@@ -281,7 +193,7 @@ pub fn constant_at(ws: &[u32], c: usize, k: u32) -> u32
     ensures { result ≡ constant_field ws.now c k }
 {
     let from = input::head_field(ws, 12) as usize;
-    base::get32(ws, from + 3 * c + (k as usize))
+    base::get_or(ws, from + 3 * c + (k as usize), 0)
 }
 
 // The payload of a constant.
@@ -302,71 +214,47 @@ pub fn rank(ws: &[u32], c: usize) -> u64
     std::num::wrapping_add_u64(payload_at(ws, c), 9223372036854775808)
 }
 
-// The lesser and the greater of two ranks.
-pub fn lesser(a: u64, b: u64) -> u64
-    ensures { result ≡ min a b }
-{
-    if a < b { a } else { b }
-}
-
-pub fn greater(a: u64, b: u64) -> u64
-    ensures { result ≡ max a b }
-{
-    if a < b { b } else { a }
-}
-
-// Does a table from the low to the high rank have few enough slots?
-fn narrow(low: u64, high: u64) -> bool
-    ensures { result ≡ nat_lt (high - low) most_table_slots }
-{
-    if high < low {
-        return true;
-    }
-    let span = high - low;
-    span < MOST_TABLE_SLOTS
-}
-
 // Refusal 7 of n keys, each `step` constants behind the one before.
 fn keys_ok(ws: &[u32], first: u32, step: u8, n: u32) -> bool
     ensures { result ≡ keys_ok ws.now (keys_at step first n) }
 {
     let mut low = u64::MAX;
-    let mut high = 0;
+    let mut high = u64::MIN;
     let mut c = first as usize;
-    let mut left = n;
-    while 0 < left {
-        if constant_at(ws, c, 0) != INT {
+    for _i in 0..n {
+        if constant_at(ws, c, 0) != kinds::constant::INT {
             return false;
         }
         let key = rank(ws, c);
-        low = lesser(low, key);
-        high = greater(high, key);
+        low = low.min(key);
+        high = high.max(key);
         c += step as usize;
-        left -= 1;
     }
-    narrow(low, high)
+    high.saturating_sub(low) < MOST_TABLE_SLOTS
 }
 
 // Refusal 7 of an instruction's row, whatever its number.
 pub fn keys_instr(ws: &[u32], i: u32) -> bool
     ensures { (r : ℕ) → result ≡ row_keys ws.now r (instr i) }
 {
-    if input::instr_field(ws, i, 0) != LOOKUP {
-        return true;
-    }
-    let first = input::instr_field(ws, i, 5);
-    let n = input::instr_field(ws, i, 6);
-    keys_ok(ws, first, 2, n)
+    input::instr_field(ws, i, 0) != kinds::instr::LOOKUP
+        || keys_ok(
+            ws,
+            input::instr_field(ws, i, 5),
+            2,
+            input::instr_field(ws, i, 6),
+        )
 }
 
 // Refusal 7 of a terminator's row, whatever its number.
 pub fn keys_term(ws: &[u32], b: u32) -> bool
     ensures { (r : ℕ) → result ≡ row_keys ws.now r (term b) }
 {
-    if input::block_field(ws, b, 6) != SWITCH {
-        return true;
-    }
-    let first = input::block_field(ws, b, 12);
-    let n = input::block_field(ws, b, 13);
-    keys_ok(ws, first, 1, n)
+    input::block_field(ws, b, 6) != kinds::term::SWITCH
+        || keys_ok(
+            ws,
+            input::block_field(ws, b, 12),
+            1,
+            input::block_field(ws, b, 13),
+        )
 }

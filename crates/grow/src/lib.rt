@@ -12,62 +12,28 @@ pub struct End {
     pub full: bool,
 }
 
-// One number more.
-pub fn push64(buf: &mut [u64], e: End, x: u64) -> End
-    ensures { Grows (λ l. l ++ (x ∷ [])) buf.old e buf.new result }
-{
-    let at = e.at;
-    let room = e.room;
-    if at < room {
-        base::set64(buf, at, x);
-        End {
-            at: at + 1,
-            room: room,
-            full: e.full,
-        }
-    } else {
-        End {
-            at: at,
-            room: room,
-            full: true,
+impl End {
+    // One number more.
+    pub fn push<T: Copy>(self, buf: &mut [T], x: T) -> End
+        ensures { Grows (λ l. l ++ (x ∷ [])) buf.old self buf.new result }
+    {
+        if self.at < self.room {
+            base::set(buf, self.at, x);
+            End {
+                at: self.at + 1,
+                ..self
+            }
+        } else {
+            End { full: true, ..self }
         }
     }
-}
 
-pub fn push32(buf: &mut [u32], e: End, x: u32) -> End
-    ensures { Grows (λ l. l ++ (x ∷ [])) buf.old e buf.new result }
-{
-    let at = e.at;
-    let room = e.room;
-    if at < room {
-        base::set32(buf, at, x);
-        End {
-            at: at + 1,
-            room: room,
-            full: e.full,
+    // Number i of the list is another.
+    pub fn store<T: Copy>(self, buf: &mut [T], i: usize, x: T)
+        ensures { Grows (λ l. set l i x) buf.old self buf.new self }
+    {
+        if i < self.at {
+            base::set(buf, i, x);
         }
-    } else {
-        End {
-            at: at,
-            room: room,
-            full: true,
-        }
-    }
-}
-
-// Number i of the list is another.
-pub fn store64(buf: &mut [u64], e: End, i: usize, x: u64)
-    ensures { Grows (λ l. set l i x) buf.old e buf.new e }
-{
-    if i < e.at {
-        base::set64(buf, i, x);
-    }
-}
-
-pub fn store32(buf: &mut [u32], e: End, i: usize, x: u32)
-    ensures { Grows (λ l. set l i x) buf.old e buf.new e }
-{
-    if i < e.at {
-        base::set32(buf, i, x);
     }
 }

@@ -1,16 +1,17 @@
 -- One turn of each loop over the arguments of an edge and the edges of a block, and its end, over plain variables.
 use Prim.Native.Nat.{ℕ, ◌+◌, ◌-◌, ◌<◌, ◌≤◌}
+use mathlib.Core.Logic.{⊎_elim}
 use mathlib.Core.List.{List, ◌++◌}
 use mathlib.Core.Path.{◌≡◌, refl, ap, ap₂, ◌∙◌}
 use native.Mathlib.Omega.{arith}
-use lib.ListN.{get_or, set}
-use borrow.Author.Tests.{lt-ltb, le-ltb, le-leb, lt-leb}
+use borrow.Author.Tests.{lt-ltb, le-ltb}
+use Rattle.std.specs.Prelude.{min}
+use Rattle.base.proofs.Numbers.{lt?}
 use Rattle.input.specs.Layout.{pool_at, list_at}
 use Rattle.input.specs.Records.{params_of, first_edge, edge_count, edge_target, arguments_of}
 use Rattle.rows.specs.Rows.{term}
 use Rattle.assign.specs.Steps.{Step, hints, edge_hints, edges_hints, row_steps}
-use Rattle.alloc.specs.declared.Alloc.{Alloc}
-use Rattle.assign.specs.Walk.{Walk, walk, hint_step, step, run}
+use Rattle.assign.specs.Walk.{Walk, hint_step, step, run}
 use Rattle.assign.proofs.Runs.{run-append, left-turn, left-next, left_none, list_turn, list_end}
 
 -- ---- hints along an edge
@@ -22,13 +23,16 @@ module _ (ws pool : List ℕ) (a n p m j : ℕ) (w : Walk) where
   unfolding run hints step
   hints-turn h k = ap₂ (λ (x y : List ℕ). run ws pool (hints x y) w) (list_turn ws a j n h) (list_turn ws p j m k)
 
-  pub hints-end : n ≤ j → run ws pool (hints (list_at ws (a + j) (n - j)) (list_at ws (p + j) (m - j))) w ≡ w
+  -- one of the two lists is at its end
+  pub hints-end : min n m ≤ j → run ws pool (hints (list_at ws (a + j) (n - j)) (list_at ws (p + j) (m - j))) w ≡ w
   unfolding run hints
-  hints-end h = rw (list_end ws a j n h)
-
-  pub hints-short : j < n → m ≤ j → run ws pool (hints (list_at ws (a + j) (n - j)) (list_at ws (p + j) (m - j))) w ≡ w
-  unfolding run hints
-  hints-short h k = ap₂ (λ (x y : List ℕ). run ws pool (hints x y) w) (list_turn ws a j n h) (list_end ws p j m k)
+  hints-end h =
+      ⊎_elim
+      (λ (k : j < n).
+      let q : m ≤ j = omega arith in
+      ap₂ (λ (x y : List ℕ). run ws pool (hints x y) w) (list_turn ws a j n k) (list_end ws p j m q))
+      (λ (k : n ≤ j). rw (list_end ws a j n k))
+      (lt? j n)
 
 module _ (ws pool : List ℕ) (b e : ℕ) (w : Walk) where
   pub edge_low : edge_target ws e ≤ b → run ws pool (edge_hints ws b e) w ≡ w
@@ -60,17 +64,3 @@ module _ (ws pool : List ℕ) (r : ℕ) (w : Walk) where
       → run ws pool (row_steps ws r (term b)) w ≡ run ws pool (edges_hints ws b (first_edge ws b) (edge_count ws b)) w
   unfolding row_steps
   term_steps b = refl
-
--- ---- one hint
-module _ (s : Alloc) (m h n : List ℕ) (a p : ℕ) where
-  pub hint_none : get_or m a 0 ≡ 0 → walk s m h n ≡ hint_step a p (walk s m h n)
-  unfolding hint_step
-  hint_none e = rw e
-
-  pub hint_far : (x : ℕ) → x ≡ get_or m a 0 → 256 < x → walk s m h n ≡ hint_step a p (walk s m h n)
-  unfolding hint_step
-  hint_far x e l = rw (← e, lt-leb x 256 l, lt-ltb 0 x (omega arith))
-
-  pub hint_set : (x : ℕ) → x ≡ get_or m a 0 → 0 < x → x ≤ 256 → walk s m (set h p x) n ≡ hint_step a p (walk s m h n)
-  unfolding hint_step
-  hint_set x e l k = rw (← e, lt-ltb 0 x l, le-leb x 256 k)

@@ -11,15 +11,13 @@ ghost use Rattle.assign.specs.Walk.{walk, hint_step, run};
 ghost use Rattle.assign.specs.Fits.{Fits};
 
 // The argument's register, if it has one, becomes the parameter's hint.
+#[tactic(auto, unfolding(assign::specs::Walk::hint_step))]
 fn hint_one(map: &[u32], wish: &mut [u32], a: u32, p: u32)
     ensures { (s : Alloc) (n : List ℕ) → walk s map.now wish.new n ≡ hint_step a p (walk s map.now wish.old n) }
 {
-    let w = base::get32(map, a as usize);
-    if w == 0 {
-        return;
-    }
-    if w <= 256 {
-        base::set32(wish, p as usize, w);
+    let w = base::get_or(map, a as usize, 0);
+    if w != 0 && w <= 256 {
+        base::set(wish, p as usize, w);
     }
 }
 
@@ -27,15 +25,13 @@ fn hint_one(map: &[u32], wish: &mut [u32], a: u32, p: u32)
 fn hint_list(ws: &[u32], map: &[u32], wish: &mut [u32], a: u32, n: u32, p: u32, m: u32)
     ensures { (s : Alloc) (pool k : List ℕ) → walk s map.now wish.new k ≡ run ws.now pool (hints (list_at ws.now a n) (list_at ws.now p m)) (walk s map.now wish.old k) }
 {
-    let mut j = 0;
-    while j < n {
-        if m <= j {
-            return;
-        }
-        let x = input::pool_at(ws, a, j);
-        let y = input::pool_at(ws, p, j);
-        hint_one(map, wish, x, y);
-        j += 1;
+    for j in 0..n.min(m) {
+        hint_one(
+            map,
+            wish,
+            input::pool_at(ws, a, j),
+            input::pool_at(ws, p, j),
+        );
     }
 }
 
@@ -59,10 +55,8 @@ fn edges_hints(ws: &[u32], map: &[u32], wish: &mut [u32], b: u32, first: u32, n:
     requires { first + n < 4294967296 }
     ensures { (s : Alloc) (pool k : List ℕ) → walk s map.now wish.new k ≡ run ws.now pool (edges_hints ws.now b first n) (walk s map.now wish.old k) }
 {
-    let mut j = 0;
-    while j < n {
+    for j in 0..n {
         edge_hints(ws, map, wish, b, first + j);
-        j += 1;
     }
 }
 

@@ -1,5 +1,5 @@
 -- Tests joined by `&` are the chain of choices that a definition makes. Assumes nothing.
-use mathlib.Core.Path.{◌≡◌, refl}
+use mathlib.Core.Path.{◌≡◌, refl, ◌∙◌}
 use mathlib.Core.Bool.{Bool, true, false, ◌&&◌}
 use Rattle.input.specs.Forms.{both}
 
@@ -16,6 +16,18 @@ all_seven true true true false t u v = refl
 all_seven true true true true false u v = refl
 all_seven true true true true true false v = refl
 all_seven true true true true true true v = refl
+
+-- a chain goes on, however it is grouped
+pub both_rest : (p q r : Bool) → both (both p q) r ≡ both p (both q r)
+both_rest true q r = refl
+both_rest false q r = refl
+
+-- the value of a chain behind one more test, which is made only where the chain has passed so far
+pub goes : {p q v : Bool} → p ≡ true → v ≡ q → v ≡ both p q
+goes e i = rw e i
+
+pub stops : {p v : Bool} (q : Bool) → p ≡ false → v ≡ p → v ≡ both p q
+stops q e i = rw e (i ∙ e)
 
 -- a chain passes where both of its parts do
 pub both-parts : (p q : Bool) → both p q ≡ true → (p ≡ true) × (q ≡ true)

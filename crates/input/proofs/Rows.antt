@@ -1,8 +1,8 @@
--- A flat list of numbers cut into rows of one width, and the room that records take. Assumes nothing.
+-- A flat list of numbers cut into rows of one width. Assumes nothing.
 use mathlib.Core.Path.{◌≡◌, ◌∙◌}
 use mathlib.Core.List.{List, [], ◌∷◌}
-use Prim.Native.Nat.{ℕ, zero, suc, ◌+◌, ◌*◌, ◌^◌, ◌≤◌, ◌<◌}
-use native.Mathlib.Nat.{mul-suc, mul-le-mul, not-suc-le-zero, le_of_suc-le-suc}
+use Prim.Native.Nat.{ℕ, zero, suc, ◌+◌, ◌*◌, ◌<◌}
+use native.Mathlib.Nat.{mul-suc, not-suc-le-zero, le_of_suc-le-suc}
 use native.Mathlib.Omega.{arith}
 use lib.ListN.{get_or, take, drop}
 use lib.Seq.{get_or-take, get_or-drop}
@@ -19,7 +19,3 @@ row_field w (suc n) l zero k h b = let e : w * 0 + k ≡ k = omega arith in rw e
 row_field w (suc n) l (suc i) k h b =
     let e : w * suc i + k ≡ w + (w * i + k) = rw mul-suc (omega arith) in
     rw e (row_field w n (drop w l) i k (le_of_suc-le-suc h) b ∙ get_or-drop w l (w * i + k) 0)
-
--- a width of 8 bits times a count of 32 bits is far below 64 bits
-pub width_fits : (w n : ℕ) → w < 2 ^ 8 → n < 2 ^ 32 → w * n ≤ 255 * 4294967295
-width_fits w n h l = mul-le-mul (le_of_suc-le-suc h) (le_of_suc-le-suc l)

@@ -7,46 +7,48 @@ ghost use Rattle.input.specs.Layout.{head_field, value_field, block_field, instr
 ghost use Rattle.input.specs.Records.{term_y, edge_count, term_operand_count, destination, operand_count, instr_span, noop, switch, true_const};
 ghost use Rattle.input.specs.Forms.{both, fits_count, instr_form, term_form, head_ok, value_ok, instr_ok, term_ok, block_ok, constant_ok, each, words_ok};
 
+pub mod kinds;
+
 // A word of the head.
 pub fn head_field(ws: &[u32], k: usize) -> u32
     ensures { result ≡ head_field ws.now k }
 {
-    base::get32(ws, k)
+    base::get_or(ws, k, 0)
 }
 
 // Field k of a value, a block, an instruction, an edge, a constant.
 pub fn value_field(ws: &[u32], v: u32, k: u32) -> u32
     ensures { result ≡ value_field ws.now v k }
 {
-    base::get32(ws, 14 + 3 * (v as usize) + (k as usize))
+    base::get_or(ws, 14 + 3 * (v as usize) + (k as usize), 0)
 }
 
 pub fn block_field(ws: &[u32], b: u32, k: u32) -> u32
     ensures { result ≡ block_field ws.now b k }
 {
     let from = head_field(ws, 9) as usize;
-    base::get32(ws, from + 14 * (b as usize) + (k as usize))
+    base::get_or(ws, from + 14 * (b as usize) + (k as usize), 0)
 }
 
 pub fn instr_field(ws: &[u32], i: u32, k: u32) -> u32
     ensures { result ≡ instr_field ws.now i k }
 {
     let from = head_field(ws, 10) as usize;
-    base::get32(ws, from + 8 * (i as usize) + (k as usize))
+    base::get_or(ws, from + 8 * (i as usize) + (k as usize), 0)
 }
 
 pub fn edge_field(ws: &[u32], e: u32, k: u32) -> u32
     ensures { result ≡ edge_field ws.now e k }
 {
     let from = head_field(ws, 11) as usize;
-    base::get32(ws, from + 3 * (e as usize) + (k as usize))
+    base::get_or(ws, from + 3 * (e as usize) + (k as usize), 0)
 }
 
 pub fn constant_field(ws: &[u32], c: u32, k: u32) -> u32
     ensures { result ≡ constant_field ws.now c k }
 {
     let from = head_field(ws, 12) as usize;
-    base::get32(ws, from + 3 * (c as usize) + (k as usize))
+    base::get_or(ws, from + 3 * (c as usize) + (k as usize), 0)
 }
 
 // Number j of a list of the pool that starts at `at`.
@@ -54,11 +56,11 @@ pub fn pool_at(ws: &[u32], at: u32, j: u32) -> u32
     ensures { result ≡ pool_at ws.now (at + j) }
 {
     let from = head_field(ws, 13) as usize;
-    base::get32(ws, from + ((at as usize) + (j as usize)))
+    base::get_or(ws, from + ((at as usize) + (j as usize)), 0)
 }
 
 // Any number of 32 bits.
-const ANY: u32 = 4294967295;
+const ANY: u32 = u32::MAX;
 
 // The form of each kind of instruction: has a destination, operands, and the most of x, y and z.
 const INSTR_FORMS: [[u32; 5]; 13] = [
@@ -94,7 +96,7 @@ fn instr_form(kind: u32, k: u32) -> u32
     requires { k < 5 }
     ensures { result ≡ instr_form kind k }
 {
-    if kind < 13 {
+    if kind < kinds::instr::COUNT {
         INSTR_FORMS[kind as usize][k as usize]
     } else {
         0
@@ -105,7 +107,7 @@ fn term_form(kind: u32, k: u32) -> u32
     requires { k < 6 }
     ensures { result ≡ term_form kind k }
 {
-    if kind < 8 {
+    if kind < kinds::term::COUNT {
         TERM_FORMS[kind as usize][k as usize]
     } else {
         0
@@ -160,12 +162,7 @@ pub fn value_ok(ws: &[u32], v: u32) -> bool
 fn destination_ok(ws: &[u32], i: u32, kind: u32) -> bool
     ensures { result ≡ eqb (instr_form kind 0) (pick (eqb (destination ws.now i) 0) 0 1) }
 {
-    let has = instr_form(kind, 0);
-    if instr_field(ws, i, 2) == 0 {
-        has == 0
-    } else {
-        has == 1
-    }
+    instr_form(kind, 0) == u32::from(instr_field(ws, i, 2) != 0)
 }
 
 // As many operands as the form says, or any number.
@@ -173,11 +170,7 @@ fn operands_ok(ws: &[u32], i: u32, kind: u32) -> bool
     ensures { result ≡ fits_count (instr_form kind 1) (operand_count ws.now i) }
 {
     let form = instr_form(kind, 1);
-    if form == ANY {
-        true
-    } else {
-        instr_field(ws, i, 4) == form
-    }
+    form == ANY || instr_field(ws, i, 4) == form
 }
 
 // Field k is at most number f of the form.
@@ -193,18 +186,14 @@ fn instr_within(ws: &[u32], i: u32, k: u32, kind: u32, f: u32) -> bool
 fn noop_ok(ws: &[u32], i: u32, kind: u32) -> bool
     ensures { result ≡ pick (eqb kind noop) (eqb (instr_span ws.now i) 0) true }
 {
-    if kind == 12 {
-        instr_field(ws, i, 1) == 0
-    } else {
-        true
-    }
+    kind != kinds::instr::NOOP || instr_field(ws, i, 1) == 0
 }
 
 pub fn instr_ok(ws: &[u32], i: u32) -> bool
     ensures { result ≡ instr_ok ws.now i }
 {
     let kind = instr_field(ws, i, 0);
-    (kind < 13)
+    (kind < kinds::instr::COUNT)
         & destination_ok(ws, i, kind)
         & operands_ok(ws, i, kind)
         & instr_within(ws, i, 5, kind, 2)
@@ -235,7 +224,7 @@ fn edges_ok(ws: &[u32], b: u32, kind: u32) -> bool
     ensures { result ≡ pick (eqb kind switch) (eqb (edge_count ws.now b) (term_y ws.now b + 1)) (eqb (edge_count ws.now b) (term_form kind 2)) }
 {
     let count = block_field(ws, b, 11);
-    if kind == 7 {
+    if kind == kinds::term::SWITCH {
         count as usize == (block_field(ws, b, 13) as usize) + 1
     } else {
         count == term_form(kind, 2)
@@ -246,7 +235,7 @@ pub fn term_ok(ws: &[u32], b: u32) -> bool
     ensures { result ≡ term_ok ws.now b }
 {
     let kind = block_field(ws, b, 6);
-    (kind < 8)
+    (kind < kinds::term::COUNT)
         & term_operands_ok(ws, b, kind)
         & term_within(ws, b, 9, kind, 1)
         & edges_ok(ws, b, kind)
@@ -266,88 +255,23 @@ pub fn block_ok(ws: &[u32], b: u32) -> bool
 fn payload_ok(ws: &[u32], c: u32, kind: u32) -> bool
     ensures { result ≡ pick (leb kind true_const) (both (eqb (constant_field ws.now c 1) 0) (eqb (constant_field ws.now c 2) 0)) true }
 {
-    if kind <= 2 {
-        (constant_field(ws, c, 1) == 0) & (constant_field(ws, c, 2) == 0)
-    } else {
-        true
-    }
+    kind > kinds::constant::TRUE || (constant_field(ws, c, 1) == 0 && constant_field(ws, c, 2) == 0)
 }
 
 pub fn constant_ok(ws: &[u32], c: u32) -> bool
     ensures { result ≡ constant_ok ws.now c }
 {
     let kind = constant_field(ws, c, 0);
-    (kind < 6) & payload_ok(ws, c, kind)
-}
-
-// Each of the first n records of a table.
-fn each_value(ws: &[u32], n: u32) -> bool
-    ensures { result ≡ each (value_ok ws.now) 0 n }
-{
-    let mut i = 0;
-    while i < n {
-        if !value_ok(ws, i) {
-            return false;
-        }
-        i += 1;
-    }
-    true
-}
-
-fn each_block(ws: &[u32], n: u32) -> bool
-    ensures { result ≡ each (block_ok ws.now) 0 n }
-{
-    let mut i = 0;
-    while i < n {
-        if !block_ok(ws, i) {
-            return false;
-        }
-        i += 1;
-    }
-    true
-}
-
-fn each_instr(ws: &[u32], n: u32) -> bool
-    ensures { result ≡ each (instr_ok ws.now) 0 n }
-{
-    let mut i = 0;
-    while i < n {
-        if !instr_ok(ws, i) {
-            return false;
-        }
-        i += 1;
-    }
-    true
-}
-
-fn each_constant(ws: &[u32], n: u32) -> bool
-    ensures { result ≡ each (constant_ok ws.now) 0 n }
-{
-    let mut i = 0;
-    while i < n {
-        if !constant_ok(ws, i) {
-            return false;
-        }
-        i += 1;
-    }
-    true
+    (kind < kinds::constant::COUNT) & payload_ok(ws, c, kind)
 }
 
 // No refusal 1. The head goes first: once it passes, no table is longer than the words.
 pub fn words_ok(ws: &[u32]) -> bool
     ensures { result ≡ words_ok ws.now }
 {
-    if !head_ok(ws) {
-        return false;
-    }
-    if !each_value(ws, head_field(ws, 3)) {
-        return false;
-    }
-    if !each_block(ws, head_field(ws, 4)) {
-        return false;
-    }
-    if !each_instr(ws, head_field(ws, 5)) {
-        return false;
-    }
-    each_constant(ws, head_field(ws, 7))
+    head_ok(ws)
+        && (0..head_field(ws, 3)).all(|v| value_ok(ws, v))
+        && (0..head_field(ws, 4)).all(|b| block_ok(ws, b))
+        && (0..head_field(ws, 5)).all(|i| instr_ok(ws, i))
+        && (0..head_field(ws, 7)).all(|c| constant_ok(ws, c))
 }

@@ -18,22 +18,13 @@ pub instr_compute : (n : ℕ) (env : Env) (table i kind : ℕ) {o b l o' b' l' :
 unfolding instr_ops
 instr_compute n env table i kind e h s = let f = none_of kind (instr_kind env.ws i) load_const call sys lookup e h in rw (f.0, f.1, f.2, f.3) s
 
--- instruction i + j of the k from i on
-module _ (n : ℕ) (env : Env) (t i k : ℕ) where
-  pub instrs_first : (q : Out) → instrs_ops n env t (i + 0) (k - 0) q ≡ instrs_ops n env t i k q
-  instrs_first q =
-      let a : i + 0 ≡ i = omega arith in
-      let c : k - 0 ≡ k = omega arith in
-      rw (a, c)
-
-  pub instrs_on : (j : ℕ) {x s : ℕ} → j < k → s ≡ instr_span env.ws (i + j) → x ≡ pick (eqb (instr_kind env.ws (i + j)) lookup) 1 0 → (q : Out)
-      → instrs_ops n env t (i + j) (k - j) q ≡ instrs_ops n env (t + x) (i + (j + 1)) (k - (j + 1)) (instr_ops n env t (i + j) (at_span s q))
+-- instruction i of those up to the end
+module _ (n : ℕ) (env : Env) (t i : ℕ) where
+  pub instrs_on : (end : ℕ) {x s : ℕ} → i < end → s ≡ instr_span env.ws i → x ≡ pick (eqb (instr_kind env.ws i) lookup) 1 0 → (q : Out)
+      → instrs_ops n env t i (end - i) q ≡ instrs_ops n env (t + x) (i + 1) (end - (i + 1)) (instr_ops n env t i (at_span s q))
   unfolding instrs_ops
-  instrs_on j h e f q =
-      let a : k - j ≡ suc (k - (j + 1)) = omega arith in
-      let c : i + (j + 1) ≡ i + j + 1 = omega arith in
-      rw (a, c, e, f)
+  instrs_on end h e f q = let a : end - i ≡ suc (end - (i + 1)) = omega arith in rw (a, e, f)
 
-  pub instrs_none : (j : ℕ) → k ≤ j → (q : Out) → instrs_ops n env t (i + j) (k - j) q ≡ q
+  pub instrs_none : (end : ℕ) → end ≤ i → (q : Out) → instrs_ops n env t i (end - i) q ≡ q
   unfolding instrs_ops
-  instrs_none j h q = let a : k - j ≡ 0 = omega arith in rw a
+  instrs_none end h q = let a : end - i ≡ 0 = omega arith in rw a

@@ -1,11 +1,13 @@
 -- LoadConst, Call and Sys by what the code found.
-use mathlib.Core.Path.{◌≡◌}
+use mathlib.Core.Path.{◌≡◌, refl, ap, ◌∙◌}
 use mathlib.Core.Bool.{false}
-use Prim.Native.Nat.{ℕ, suc, ◌-◌, ◌≤◌}
+use Prim.Native.Nat.{ℕ, zero, suc, ◌+◌, ◌*◌, ◌-◌, ◌/◌, ◌≤◌}
 use mathlib.Core.List.{List, [], ◌∷◌}
 use native.Mathlib.Omega.{arith}
 use lib.Dec.{eqb}
 use lib.ListN.{length, get_or, take, length-take}
+use lib.Seq.{take-nil, take_all}
+use Rattle.base.specs.Choice.{pick}
 use Rattle.base.specs.declared.Pen.{Pen}
 use Rattle.base.specs.Emission.{Out}
 use Rattle.base.specs.Lent.{Lowers}
@@ -13,6 +15,7 @@ use Rattle.base.proofs.Numbers.{pick-both}
 use Rattle.base.proofs.Pens.{renamed}
 use Rattle.input.specs.Layout.{list_at}
 use Rattle.input.specs.Records.{destination, operands_at, operand_count, instr_x, constant_kind, payload_of}
+use Rattle.input.specs.Forms.{both}
 use Rattle.lower.specs.Instructions.{is_global, const_ops, lower_const}
 use Rattle.calls.specs.Calls.{lower_call, lower_sys}
 use Rattle.interning.specs.Interning.{global_of, builtin_of}
@@ -35,6 +38,21 @@ module _ (n : ℕ) (ws places globals : List ℕ) (i c : ℕ) {kind payload d : 
   unfolding load_const_ops
   load_other h s = rw (← f, ← e, ← g) (renamed s (λ q. const_any n d kind payload 0 (global_of kind payload globals) q h))
 
+-- an odd number at the end of the globals is none
+global_cut : (kind payload : ℕ) (l : List ℕ) (n : ℕ) → length l ≤ 2 * n + 1 → global_of kind payload (take (2 * n) l) ≡ global_of kind payload l
+unfolding global_of
+global_cut kind payload [] n h = rw (take-nil (2 * n))
+global_cut kind payload (k ∷ []) zero h = refl
+global_cut kind payload (k ∷ []) (suc n) h = rw (take_all (2 * suc n) (k ∷ []) (omega arith))
+global_cut kind payload (k ∷ p ∷ l) zero h = absurd (omega arith)
+global_cut kind payload (k ∷ p ∷ l) (suc n) h =
+    let e : 2 * suc n ≡ suc (suc (2 * n)) = omega arith in
+    let i : length l ≤ 2 * n + 1 = omega arith in
+    rw e (ap (λ (m : ℕ). pick (both (eqb k kind) (eqb p payload)) 0 (suc m)) (global_cut kind payload l n i))
+
+pub global_whole : (kind payload : ℕ) (l : List ℕ) {number : ℕ} → number ≡ global_of kind payload (take (2 * (length l / 2)) l) → number ≡ global_of kind payload l
+global_whole kind payload l e = e ∙ global_cut kind payload l (length l / 2) (omega arith)
+
 -- the number of a builtin is at most their count
 builtin_most : (x : ℕ) (l : List ℕ) → builtin_of x l ≤ length l
 unfolding builtin_of
@@ -42,8 +60,8 @@ builtin_most x [] = omega arith
 builtin_most x (y ∷ l) =
     pick-both (λ (k : ℕ). k ≤ suc (length l)) (eqb y x) 0 (suc (builtin_of x l)) (omega arith) (omega (arith, builtin_most x l))
 
-pub builtin_few : (x count : ℕ) (l : List ℕ) {number : ℕ} → number ≡ builtin_of x (take count l) → number ≤ count
-builtin_few x count l e = omega (arith, builtin_most x (take count l), length-take count l)
+pub builtin_few : (x : ℕ) (l : List ℕ) {number : ℕ} → number ≡ builtin_of x (take (length l) l) → number ≤ length l
+builtin_few x l e = omega (arith, builtin_most x (take (length l) l), length-take (length l) l)
 
 -- the operands, the noted registers and the destination, as the code found them
 module _ (n : ℕ) (ws places noted : List ℕ) (i : ℕ) {at count mask d : ℕ} {o b l o' b' l' : List ℕ} {p p' : Pen} (e : at ≡ operands_at ws i)
@@ -53,7 +71,7 @@ module _ (n : ℕ) (ws places noted : List ℕ) (i : ℕ) {at count mask d : ℕ
   unfolding call_ops
   call_as functions j k s = rw (← e, ← f, ← g, ← h, ← j, ← k) s
 
-  pub sys_as : (builtins : List ℕ) {x number : ℕ} → x ≡ instr_x ws i → number ≡ builtin_of x builtins
+  pub sys_as : (builtins : List ℕ) {x number : ℕ} → x ≡ instr_x ws i → number ≡ builtin_of x (take (length builtins) builtins)
       → Lowers (lower_sys n places mask (list_at ws at count) number d) o b l p o' b' l' p' → Lowers (sys_ops n ws places noted builtins i) o b l p o' b' l' p'
   unfolding sys_ops
-  sys_as builtins j k s = rw (← e, ← f, ← g, ← h, ← j, ← k) s
+  sys_as builtins {x} j k s = rw (← e, ← f, ← g, ← h, ← j, ← (k ∙ ap (builtin_of x) (take_all (length builtins) builtins (omega arith)))) s

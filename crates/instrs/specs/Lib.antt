@@ -1,2 +1,3 @@
 pub mod Instrs
 pub mod Needs
+pub mod Env

@@ -1,14 +1,19 @@
 -- Finding a constant among the globals and a builtin in its list, and what is done where it is found and where it isn't.
 use mathlib.Core.Path.{◌≡◌, refl, sym, ap, ◌∙◌}
 use mathlib.Core.Logic.{⊎_elim}
-use mathlib.Core.Bool.{true, false}
+use mathlib.Core.Bool.{Bool, true, false, cond}
 use Prim.Native.Nat.{ℕ, zero, suc, ◌+◌, ◌*◌, ◌/◌, ◌≤◌, ◌<◌, min}
 use mathlib.Core.List.{List, [], ◌∷◌, ◌++◌, append_assoc}
 use native.Mathlib.Omega.{arith}
-use borrow.Author.Tests.{lt-ltb, le-ltb, eq-eqb, ne_eqb}
+use borrow.Author.Tests.{lt-ltb, le-ltb}
 use lib.Dec.{ltb, eqb}
 use lib.ListN.{length, get_or, take, drop, length-take, length-append}
 use lib.Seq.{take-nil, take_all, take-take, take-append-le}
+use Rattle.std.specs.Prelude.{Some, None}
+use Rattle.std.specs.List.{position_or_len}
+use Rattle.std.specs.Option.{unwrap_or}
+use Rattle.std.proofs.lemmas.List.Recursion.{is_position_or_len}
+use Rattle.std.proofs.lemmas.List.Sums.{prefix_len-le-length}
 use Rattle.base.specs.Choice.{pick}
 use Rattle.base.proofs.Numbers.{lt?, pick-both}
 use Rattle.base.proofs.Lists.{peel, past}
@@ -83,8 +88,8 @@ module _ (kind payload : ℕ) (g : List ℕ) (count i : ℕ) where
       rw (global_turn h k, t) in
       omega arith
 
-  pub global_end : count ≤ i → GlobalLeft kind payload g count i → i ≡ global_of kind payload (take (2 * count) g)
-  global_end h s =
+  pub global_end : count ≤ i → i ≤ count → GlobalLeft kind payload g count i → count ≡ global_of kind payload (take (2 * count) g)
+  global_end h k s =
       let p : drop (2 * i) (take (2 * count) g) ≡ [] = past (2 * count) (2 * i) g (omega arith) in
       let z : global_of kind payload (drop (2 * i) (take (2 * count) g)) ≡ 0 = rw p (none_left kind payload [] (omega arith)) in
       omega arith
@@ -151,30 +156,25 @@ module _ (kind payload found : ℕ) (e : End) (buf : List ℕ) (is : found ≡ g
 
 -- ---- builtins
 
-abbrev pub BuiltinLeft : ℕ → List ℕ → ℕ → ℕ → Type 0
-BuiltinLeft x l count i = i + builtin_of x (drop i (take count l)) ≡ builtin_of x (take count l)
+-- the library's word for the number of a builtin
+builtin_place : (x : ℕ) (l : List ℕ) → builtin_of x l ≡ position_or_len (λ y. eqb y x) l
+unfolding builtin_of
+builtin_place x l = is_position_or_len (builtin_of x) (λ y. eqb y x) refl (λ y ys. go (eqb y x) (builtin_of x ys)) l where
+  go : (t : Bool) (n : ℕ) → pick t 0 (suc n) ≡ cond t 0 (1 + n)
+  go true n = refl
+  go false n = grind arith
 
-pub builtin_start : (x : ℕ) (l : List ℕ) (count : ℕ) → BuiltinLeft x l count 0
-builtin_start x l count = omega arith
-
-module _ (x : ℕ) (l : List ℕ) (count i : ℕ) where
-  pub builtin_here : i < count → count ≤ length l → get_or l i 0 ≡ x → BuiltinLeft x l count i → i ≡ builtin_of x (take count l)
-  unfolding builtin_of
-  builtin_here h k t s =
-      let z : builtin_of x (drop i (take count l)) ≡ 0 = rw (peel count i l h k, eq-eqb (get_or l i 0) x t) in
-      omega arith
-
-  pub builtin_on : i < count → count ≤ length l → (get_or l i 0 ≡ x → ⊥) → BuiltinLeft x l count i → BuiltinLeft x l count (i + 1)
-  unfolding builtin_of
-  builtin_on h k t s =
-      let z : builtin_of x (drop i (take count l)) ≡ suc (builtin_of x (drop (i + 1) (take count l))) = rw (peel count i l h k, ne_eqb (get_or l i 0) x t) in
-      omega arith
-
-  pub builtin_end : count ≤ i → BuiltinLeft x l count i → i ≡ builtin_of x (take count l)
-  unfolding builtin_of
-  builtin_end h s =
-      let z : builtin_of x (drop i (take count l)) ≡ 0 = rw (past count i l h) in
-      omega arith
+-- the place that a search gives, or the count
+pub builtin_or_count : (x : ℕ) (l : List ℕ) (count : ℕ) → count ≡ length l
+    → unwrap_or (cond (ltb (position_or_len (λ y. eqb y x) l) (length l)) (Some (position_or_len (λ y. eqb y x) l)) None) count ≡ builtin_of x l
+builtin_or_count x l count e =
+    let n = position_or_len (λ y. eqb y x) l in
+    let m : n ≤ length l = prefix_len-le-length _ l in
+    rw (builtin_place x l)
+    (⊎_elim
+    (λ (h : n < length l). rw (lt-ltb n (length l) h))
+    (λ (h : length l ≤ n). rw (le-ltb n (length l) h) (omega arith))
+    (lt? n (length l)))
 
 module _ (x found : ℕ) (e : End) (buf : List ℕ) (is : found ≡ builtin_of x (take (min e.at (length buf)) buf)) where
   pub builtin_found : found < e.at → Grows (intern_builtin x) buf e buf e

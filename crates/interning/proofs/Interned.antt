@@ -1,6 +1,7 @@
 -- The passes that intern constants and builtins: each thing in turn, and which constants of the words a row has.
 use mathlib.Core.Path.{◌≡◌, refl, ap}
-use mathlib.Core.Bool.{Bool, true, false}
+use mathlib.Core.Logic.{◌≢◌}
+use mathlib.Core.Bool.{Bool}
 use Prim.Native.Nat.{ℕ, suc, ◌+◌, ◌*◌, ◌-◌, ◌≤◌, ◌<◌}
 use mathlib.Core.List.{List, [], ◌∷◌, ◌++◌}
 use native.Mathlib.Omega.{arith}
@@ -8,32 +9,19 @@ use borrow.Author.Tests.{eq-eqb, ne_eqb}
 use Rattle.base.specs.Choice.{pick}
 use Rattle.grow.specs.declared.End.{End}
 use Rattle.grow.specs.Growing.{Grows}
-use Rattle.grow.proofs.Growing.{Left, left-turn, left_end, none, renamed}
+use Rattle.grow.proofs.Growing.{Left, left_as, left-turn, left_end, none}
 use Rattle.input.specs.Records.{instr_kind, instr_x, instr_y, load_const, lookup, sys, term_kind, term_x, term_y, switch, constant_kind, payload_of}
-use Rattle.rows.specs.Rows.{Row, params, instr, term}
+use Rattle.rows.specs.Rows.{params, instr, term}
 use Rattle.fit.specs.Keys.{keys_at}
-use Rattle.lower.specs.Instructions.{is_global}
-use Rattle.interning.specs.Interning.{intern, intern_all, is_string, row_constants, row_loaded, intern_builtin, intern_builtins, row_builtins}
+use Rattle.interning.specs.declared.Asked.{Asked}
+use Rattle.interning.specs.declared.Asked.TheVariants.{Strings, Loaded}
+use Rattle.interning.specs.Asked.{rows_by}
+use Rattle.interning.specs.Interning.{intern, intern_all, row_constants, row_loaded, intern_builtin, intern_builtins, row_builtins}
 use Rattle.interning.proofs.Passes.{InTurn}
-
--- the pass for strings, and the pass for what LoadG loads
-abbrev pub asked_by : Bool → ℕ → ℕ → Bool
-asked_by strings = pick strings is_string is_global
-
-abbrev pub rows_by : Bool → List ℕ → ℕ → Row → List ℕ
-rows_by strings = pick strings row_constants row_loaded
 
 -- one constant
 abbrev pub intern_one : (ℕ → ℕ → Bool) → List ℕ → ℕ → List ℕ → List ℕ
 intern_one asked ws c g = pick (asked (constant_kind ws c) (payload_of ws c)) (intern (constant_kind ws c) (payload_of ws c) g) g
-
-pub one_none : (asked : ℕ → ℕ → Bool) (ws : List ℕ) (c : ℕ) (b : List ℕ) (e : End) → asked (constant_kind ws c) (payload_of ws c) ≡ false
-    → Grows (intern_one asked ws c) b e b e
-one_none asked ws c b e h = renamed (none b e) (λ g. rw h)
-
-pub one_some : (asked : ℕ → ℕ → Bool) (ws : List ℕ) (c : ℕ) {b b' : List ℕ} {e e' : End} → asked (constant_kind ws c) (payload_of ws c) ≡ true
-    → Grows (intern (constant_kind ws c) (payload_of ws c)) b e b' e' → Grows (intern_one asked ws c) b e b' e'
-one_some asked ws c h s = renamed s (λ g. rw h)
 
 constants_none : (asked : ℕ → ℕ → Bool) (ws g : List ℕ) → intern_all asked ws [] g ≡ g
 unfolding intern_all
@@ -61,65 +49,74 @@ builtins_in_turn = record { nil = builtins_none; app = builtins_app }
 
 -- ---- so many constants from one on
 
-abbrev pub RunLeft : Bool → List ℕ → ℕ → ℕ → List ℕ → End → ℕ → ℕ → List ℕ → End → Type 0
-RunLeft strings ws c₀ n b e c left b' e' =
-    Left (intern_all (asked_by strings) ws (keys_at 1 c left)) (intern_all (asked_by strings) ws (keys_at 1 c₀ n)) b e b' e'
+abbrev pub RunLeft : (ℕ → ℕ → Bool) → List ℕ → ℕ → ℕ → List ℕ → End → ℕ → List ℕ → End → Type 0
+RunLeft asked ws first n b e c b' e' =
+    Left (intern_all asked ws (keys_at 1 c (first + n - c))) (intern_all asked ws (keys_at 1 first n)) b e b' e'
 
-module _ (strings : Bool) (ws : List ℕ) (c₀ n : ℕ) {b b' : List ℕ} {e e' : End} (c left : ℕ) (s : RunLeft strings ws c₀ n b e c left b' e') where
-  pub run-turn : {b'' : List ℕ} {e'' : End} → 0 < left → Grows (intern_one (asked_by strings) ws c) b' e' b'' e''
-      → RunLeft strings ws c₀ n b e (c + 1) (left - 1) b'' e''
-  unfolding intern_all keys_at
-  run-turn h t =
-      let k : left ≡ suc (left - 1) = omega arith in
-      left-turn (intern_all (asked_by strings) ws (keys_at 1 (c + 1) (left - 1))) s t
-      (λ l. ap (λ (m : ℕ). intern_all (asked_by strings) ws (keys_at 1 c m) l) k)
+module _ (asked : ℕ → ℕ → Bool) (ws : List ℕ) (first n : ℕ) where
+  pub run_start : (b : List ℕ) (e : End) → RunLeft asked ws first n b e first b e
+  run_start b e =
+      let k : first + n - first ≡ n = omega arith in
+      left_as (λ l. ap (λ (m : ℕ). intern_all asked ws (keys_at 1 first m) l) k)
 
-  pub run_end : left ≤ 0 → Grows (intern_all (asked_by strings) ws (keys_at 1 c₀ n)) b e b' e'
+  pub run-turn : {b b' b'' : List ℕ} {e e' e'' : End} (c : ℕ) → c < first + n → RunLeft asked ws first n b e c b' e'
+      → Grows (intern_one asked ws c) b' e' b'' e'' → RunLeft asked ws first n b e (c + 1) b'' e''
   unfolding intern_all keys_at
-  run_end h =
-      let k : left ≡ 0 = omega arith in
-      left_end s (λ l. ap (λ (m : ℕ). intern_all (asked_by strings) ws (keys_at 1 c m) l) k)
+  run-turn c h s t =
+      let k : first + n - c ≡ suc (first + n - (c + 1)) = omega arith in
+      left-turn (intern_all asked ws (keys_at 1 (c + 1) (first + n - (c + 1)))) s t
+      (λ l. ap (λ (m : ℕ). intern_all asked ws (keys_at 1 c m) l) k)
+
+  pub run_end : {b b' : List ℕ} {e e' : End} (c : ℕ) → first + n ≤ c → RunLeft asked ws first n b e c b' e'
+      → Grows (intern_all asked ws (keys_at 1 first n)) b e b' e'
+  unfolding intern_all keys_at
+  run_end c h s =
+      let k : first + n - c ≡ 0 = omega arith in
+      left_end s (λ l. ap (λ (m : ℕ). intern_all asked ws (keys_at 1 c m) l) k)
 
 -- ---- a row's constants are so many from one on
 
 module _ (ws : List ℕ) (i : ℕ) where
-  pub loads_one : (strings : Bool) → instr_kind ws i ≡ load_const → (r : ℕ) → rows_by strings ws r (instr i) ≡ keys_at 1 (instr_x ws i) 1
+  pub loads_one : (asked : Asked) → instr_kind ws i ≡ load_const → (r : ℕ) → rows_by asked ws r (instr i) ≡ keys_at 1 (instr_x ws i) 1
   unfolding row_constants row_loaded keys_at
-  loads_one true h = λ r. rw (eq-eqb (instr_kind ws i) load_const h)
-  loads_one false h = λ r. rw (eq-eqb (instr_kind ws i) load_const h)
+  loads_one Strings h = λ r. rw h
+  loads_one Loaded h = λ r. rw h
 
-  pub loads_none : (strings : Bool) → (instr_kind ws i ≡ load_const → ⊥) → strings ≡ false → (r : ℕ) → rows_by strings ws r (instr i) ≡ keys_at 1 (instr_x ws i) 0
-  unfolding row_loaded keys_at
-  loads_none strings h e = λ r. rw (e, ne_eqb (instr_kind ws i) load_const h)
-
-  pub looks_none : (strings : Bool) → (instr_kind ws i ≡ load_const → ⊥) → (instr_kind ws i ≡ lookup → ⊥) → (r : ℕ) → rows_by strings ws r (instr i) ≡ keys_at 1 (instr_x ws i) 0
-  unfolding row_constants row_loaded keys_at
-  looks_none true h k = λ r. rw (ne_eqb (instr_kind ws i) load_const h, ne_eqb (instr_kind ws i) lookup k)
-  looks_none false h k = λ r. rw (ne_eqb (instr_kind ws i) load_const h)
-
-  pub looks_all : (strings : Bool) → (instr_kind ws i ≡ load_const → ⊥) → strings ≡ true → instr_kind ws i ≡ lookup
-      → (r : ℕ) → rows_by strings ws r (instr i) ≡ keys_at 1 (instr_x ws i) (2 * instr_y ws i + 1)
+  pub looks_all : (asked : Asked) → asked ≡ Strings → instr_kind ws i ≡ lookup
+      → (r : ℕ) → rows_by asked ws r (instr i) ≡ keys_at 1 (instr_x ws i) (2 * instr_y ws i + 1)
   unfolding row_constants
-  looks_all strings h e k = λ r. rw (e, ne_eqb (instr_kind ws i) load_const h, eq-eqb (instr_kind ws i) lookup k)
+  looks_all asked e h = λ r. rw (e, h)
+
+  pub loads_none : (asked : Asked) → asked ≡ Loaded → instr_kind ws i ≢ load_const
+      → (r : ℕ) → rows_by asked ws r (instr i) ≡ keys_at 1 (instr_x ws i) 0
+  unfolding row_loaded keys_at
+  loads_none asked e h = λ r. rw (e, ne_eqb (instr_kind ws i) load_const h)
+
+  pub looks_none : (asked : Asked) → instr_kind ws i ≢ load_const → instr_kind ws i ≢ lookup
+      → (r : ℕ) → rows_by asked ws r (instr i) ≡ keys_at 1 (instr_x ws i) 0
+  unfolding row_constants row_loaded keys_at
+  looks_none Strings h k = λ r. rw (ne_eqb (instr_kind ws i) load_const h, ne_eqb (instr_kind ws i) lookup k)
+  looks_none Loaded h k = λ r. rw (ne_eqb (instr_kind ws i) load_const h)
 
 module _ (ws : List ℕ) (b : ℕ) where
-  pub switches_none : (strings : Bool) → (term_kind ws b ≡ switch → ⊥) → (r : ℕ) → rows_by strings ws r (term b) ≡ keys_at 1 (term_x ws b) 0
-  unfolding row_constants row_loaded keys_at
-  switches_none true h = λ r. rw (ne_eqb (term_kind ws b) switch h)
-  switches_none false h = λ r. refl
-
-  pub switches_left : (strings : Bool) → strings ≡ false → (r : ℕ) → rows_by strings ws r (term b) ≡ keys_at 1 (term_x ws b) 0
-  unfolding row_loaded keys_at
-  switches_left strings e = λ r. rw e
-
-  pub switches_all : (strings : Bool) → strings ≡ true → term_kind ws b ≡ switch → (r : ℕ) → rows_by strings ws r (term b) ≡ keys_at 1 (term_x ws b) (term_y ws b)
+  pub switches_all : (asked : Asked) → asked ≡ Strings → term_kind ws b ≡ switch
+      → (r : ℕ) → rows_by asked ws r (term b) ≡ keys_at 1 (term_x ws b) (term_y ws b)
   unfolding row_constants
-  switches_all strings e k = λ r. rw (e, eq-eqb (term_kind ws b) switch k)
+  switches_all asked e h = λ r. rw (e, h)
 
-  pub params_none : (strings : Bool) (r : ℕ) → rows_by strings ws r (params b) ≡ []
+  pub switches_left : (asked : Asked) → asked ≡ Loaded → (r : ℕ) → rows_by asked ws r (term b) ≡ keys_at 1 (term_x ws b) 0
+  unfolding row_loaded keys_at
+  switches_left asked e = λ r. rw e
+
+  pub switches_none : (asked : Asked) → term_kind ws b ≢ switch → (r : ℕ) → rows_by asked ws r (term b) ≡ keys_at 1 (term_x ws b) 0
+  unfolding row_constants row_loaded keys_at
+  switches_none Strings h = λ r. rw (ne_eqb (term_kind ws b) switch h)
+  switches_none Loaded h = λ r. refl
+
+  pub params_none : (asked : Asked) (r : ℕ) → rows_by asked ws r (params b) ≡ []
   unfolding row_constants row_loaded
-  params_none true r = refl
-  params_none false r = refl
+  params_none Strings r = refl
+  params_none Loaded r = refl
 
 -- ---- a row's builtin
 

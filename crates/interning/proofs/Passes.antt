@@ -3,6 +3,7 @@ use mathlib.Core.Path.{◌≡◌, sym, ap, ◌∙◌}
 use mathlib.Core.Bool.{true, false}
 use Prim.Native.Nat.{ℕ, ◌+◌, ◌-◌, ◌≤◌, ◌<◌}
 use mathlib.Core.List.{List, [], ◌++◌}
+use native.Mathlib.Omega.{arith}
 use lib.ListN.{length}
 use Rattle.grow.specs.declared.End.{End}
 use Rattle.grow.specs.Growing.{Grows}
@@ -16,10 +17,10 @@ pub record InTurn (f : List ℕ → List ℕ → List ℕ) : Type 0 where
   pub nil : (l : List ℕ) → f [] l ≡ l
   pub app : (xs ys l : List ℕ) → f (xs ++ ys) l ≡ f ys (f xs l)
 
--- what is left of n instructions from the j-th on, of which the first is i
+-- what is left of n instructions, the first of them and on, from the i-th on
 abbrev pub InstrsLeft : (List ℕ → List ℕ → List ℕ) → (ℕ → Row → List ℕ) → ℕ → ℕ → List ℕ → End → ℕ → List ℕ → End → Type 0
-InstrsLeft f g i n b e j b' e' =
-    (r : ℕ) → Left (f (over_rows g (r + j) (instr_rows (i + j) (n - j)))) (f (over_rows g r (instr_rows i n))) b e b' e'
+InstrsLeft f g first n b e i b' e' =
+    (r : ℕ) → Left (f (over_rows g (r + (i - first)) (instr_rows (first + (i - first)) (n - (i - first))))) (f (over_rows g r (instr_rows first n))) b e b' e'
 
 -- what is left of n blocks from the k-th on
 abbrev pub BlocksLeft : (List ℕ → List ℕ → List ℕ) → (ℕ → Row → List ℕ) → List ℕ → ℕ → List ℕ → End → ℕ → List ℕ → End → Type 0
@@ -27,19 +28,25 @@ BlocksLeft f g ws n b e k b' e' =
     (r : ℕ) × Left (f (over_rows g r (rows_from ws k (n - k)))) (f (over_rows g 0 (rows_from ws 0 n))) b e b' e'
 
 module _ {f : List ℕ → List ℕ → List ℕ} (law : InTurn f) (g : ℕ → Row → List ℕ) where
-  pub instrs_start : (i n : ℕ) (b : List ℕ) (e : End) → InstrsLeft f g i n b e 0 b e
-  instrs_start i n b e = λ r. left_as (λ l. ap (λ (xs : List ℕ). f xs l) (over_instrs_start g r i n))
+  pub instrs_start : (first n : ℕ) (b : List ℕ) (e : End) → InstrsLeft f g first n b e first b e
+  instrs_start first n b e =
+      let z : first - first ≡ 0 = omega arith in
+      rw z (λ r. left_as (λ l. ap (λ (xs : List ℕ). f xs l) (over_instrs_start g r first n)))
 
-  pub instrs_turn : {b b' b'' : List ℕ} {e e' e'' : End} (i n j : ℕ) → j < n → InstrsLeft f g i n b e j b' e'
-      → ((r : ℕ) → Grows (f (g r (instr (i + j)))) b' e' b'' e'') → InstrsLeft f g i n b e (j + 1) b'' e''
-  instrs_turn i n j h s t =
-      λ r. left-turn (f (over_rows g (r + (j + 1)) (instr_rows (i + (j + 1)) (n - (j + 1))))) (s r) (t (r + j))
-      (λ l. ap (λ (xs : List ℕ). f xs l) (over_instrs g r i n j h)
-      ∙ law.app (g (r + j) (instr (i + j))) (over_rows g (r + (j + 1)) (instr_rows (i + (j + 1)) (n - (j + 1)))) l)
+  pub instrs_turn : {b b' b'' : List ℕ} {e e' e'' : End} (first n i : ℕ) → first ≤ i → i < first + n → InstrsLeft f g first n b e i b' e'
+      → ((r : ℕ) → Grows (f (g r (instr i))) b' e' b'' e'') → InstrsLeft f g first n b e (i + 1) b'' e''
+  instrs_turn first n i h k s t =
+      let j = i - first in
+      let here : first + j ≡ i = omega arith in
+      let next : i + 1 - first ≡ j + 1 = omega arith in
+      rw next
+      (λ r. left-turn (f (over_rows g (r + (j + 1)) (instr_rows (first + (j + 1)) (n - (j + 1))))) (s r) (rw here (t (r + j)))
+      (λ l. ap (λ (xs : List ℕ). f xs l) (over_instrs g r first n j (omega arith))
+      ∙ law.app (g (r + j) (instr (first + j))) (over_rows g (r + (j + 1)) (instr_rows (first + (j + 1)) (n - (j + 1)))) l))
 
-  pub instrs_end : {b b' : List ℕ} {e e' : End} (i n j : ℕ) → n ≤ j → InstrsLeft f g i n b e j b' e'
-      → (r : ℕ) → Grows (f (over_rows g r (instr_rows i n))) b e b' e'
-  instrs_end i n j h s = λ r. left_end (s r) (λ l. ap (λ (xs : List ℕ). f xs l) (over_instrs_end g r i n j h) ∙ law.nil l)
+  pub instrs_end : {b b' : List ℕ} {e e' : End} (first n i : ℕ) → first + n ≤ i → InstrsLeft f g first n b e i b' e'
+      → (r : ℕ) → Grows (f (over_rows g r (instr_rows first n))) b e b' e'
+  instrs_end first n i h s = λ r. left_end (s r) (λ l. ap (λ (xs : List ℕ). f xs l) (over_instrs_end g r first n (i - first) (omega arith)) ∙ law.nil l)
 
   module _ (ws : List ℕ) where
     pub blocks_start : (n : ℕ) (b : List ℕ) (e : End) → BlocksLeft f g ws n b e 0 b e

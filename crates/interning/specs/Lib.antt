@@ -1,1 +1,2 @@
 pub mod Interning
+pub mod Asked

@@ -1,5 +1,6 @@
 pub mod Which
 pub mod Fills
+pub mod Instrs
 pub mod Shapes
 pub mod Rooms
 pub mod Few

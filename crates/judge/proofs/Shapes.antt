@@ -1,34 +1,22 @@
 -- What a function in shape says: that block 0 is there and live, and of each live block where its instructions are.
 use Prim.Native.Nat.{ℕ, ◌+◌, ◌<◌, ◌≤◌}
-use mathlib.Core.Bool.{true, false}
+use mathlib.Core.Bool.{true}
 use mathlib.Core.List.{List}
 use mathlib.Core.Logic.{◌⊎◌, ⊎_elim}
-use mathlib.Core.Path.{◌≡◌, sym, ◌∙◌}
+use mathlib.Core.Path.{◌≡◌, sym, ap, ◌∙◌}
 use native.Mathlib.Omega.{arith}
-use borrow.Author.Tests.{leb-true, ltb-true, lt-ltb, le-ltb}
+use borrow.Author.Tests.{leb-true, ltb-true}
 use lib.Dec.{ltb, eqb}
 use Rattle.input.specs.Layout.{blocks, instructions}
 use Rattle.input.specs.Records.{is_live, block_id, params_at, param_count, params_of, first_instr, instr_count}
 use Rattle.input.proofs.Chain.{both-parts}
 use Rattle.rows.specs.Rows.{params, rows_of, every, Ref}
 use Rattle.shape.specs.Shape.{list_in, params_shape, row_shape, shape_ok}
-use Rattle.judge.specs.Passes.{row_ok, Placed}
+use Rattle.judge.specs.declared.RowCheck.{RowCheck}
+use Rattle.judge.specs.declared.RowCheck.TheVariants.{Shape}
+use Rattle.judge.specs.Passes.{row_ok, check_number, Placed}
 use Rattle.rows.proofs.Every.{every-live, every-block}
 use Rattle.judge.proofs.Which.{which_shape}
-
--- no refusal 3, by its three clauses
-module _ (ws : List ℕ) where
-  pub shape_empty : blocks ws ≡ 0 → false ≡ shape_ok ws
-  unfolding shape_ok
-  shape_empty e = rw (le-ltb 0 (blocks ws) (omega arith))
-
-  pub shape_dead : (blocks ws ≡ 0 → ⊥) → is_live ws 0 ≡ false → false ≡ shape_ok ws
-  unfolding shape_ok
-  shape_dead h e = rw (lt-ltb 0 (blocks ws) (omega arith), e)
-
-  pub shape_rows : (blocks ws ≡ 0 → ⊥) → is_live ws 0 ≡ true → every (row_shape ws) 0 (rows_of ws) ≡ shape_ok ws
-  unfolding shape_ok
-  shape_rows h e = rw (lt-ltb 0 (blocks ws) (omega arith), e)
 
 pub record InShape (ws : List ℕ) : Type 0 where
   pub some : 0 < blocks ws
@@ -51,11 +39,11 @@ shape_placed ws b e =
     leb-true _ _ q.1
 
 -- in a pass for refusal 3 the row of parameters says so, in the others it is known
-pub passed_placed : (which : ℕ) (ws functions : List ℕ) (ds : List Ref) (r b : ℕ) → (which ≡ 3) ⊎ Placed ws b → is_live ws b ≡ true
-    → row_ok which ws functions ds r (params b) ≡ true → first_instr ws b + instr_count ws b ≤ instructions ws
+pub passed_placed : (which : RowCheck) (ws functions : List ℕ) (ds : List Ref) (r b : ℕ) → (which ≡ Shape) ⊎ Placed ws b → is_live ws b ≡ true
+    → row_ok (check_number which) ws functions ds r (params b) ≡ true → first_instr ws b + instr_count ws b ≤ instructions ws
 passed_placed which ws functions ds r b known live e =
     ⊎_elim
-    (λ (q : which ≡ 3). shape_placed ws b (sym (which_shape which ws functions ds r (params b) q) ∙ e))
+    (λ (q : which ≡ Shape). shape_placed ws b (sym (which_shape (check_number which) ws functions ds r (params b) (ap check_number q)) ∙ e))
     (λ (p : Placed ws b). p live)
     known
 

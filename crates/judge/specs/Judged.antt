@@ -1,25 +1,18 @@
 -- Judging a function: the lowest number from 1 to 7 that applies, 0 for none, on a machine with n registers.
-use Rattle.std.specs.Prelude.{ℕ, List}
+use Rattle.std.specs.Prelude.{ℕ, List, Result}
 use Rattle.base.specs.Choice.{pick}
+use Rattle.refusal.specs.declared.Refusal.{Refusal}
+use Rattle.refusal.specs.Numbers.{number_for}
 use Rattle.input.specs.Forms.{words_ok}
 use Rattle.shape.specs.Counts.{counts_ok}
 use Rattle.shape.specs.Shape.{shape_ok}
 use Rattle.fit.specs.Intervals.{once_ok, intervals_ok}
 use Rattle.fit.specs.Callees.{callees_ok}
 use Rattle.fit.specs.Keys.{keyed_ok}
-use Rattle.judge.specs.declared.Verdict.{Verdict}
-use Rattle.judge.specs.declared.Verdict.TheVariants.{Fit, BadWord, TooMany, BadShape, DoubleDef, BadInterval, UnknownFunc, BadKey}
 
--- document 01's number of each verdict
-abbrev pub verdict_number : Verdict → ℕ
-verdict_number Fit = 0
-verdict_number BadWord = 1
-verdict_number TooMany = 2
-verdict_number BadShape = 3
-verdict_number DoubleDef = 4
-verdict_number BadInterval = 5
-verdict_number UnknownFunc = 6
-verdict_number BadKey = 7
+-- document 01's number of a verdict, 0 for none
+abbrev pub verdict_number : Result Unit Refusal → ℕ
+verdict_number v = number_for v
 
 unfoldable pub unfit : ℕ → List ℕ → List ℕ → ℕ
 unfit n ws functions =

@@ -8,6 +8,8 @@ use Rattle.shape.specs.Shape.{row_shape, shape_ok}
 use Rattle.fit.specs.Intervals.{fit_row, once_ok, intervals_ok}
 use Rattle.fit.specs.Callees.{row_callee, callees_ok}
 use Rattle.fit.specs.Keys.{row_keys, keyed_ok}
+use Rattle.judge.specs.declared.RowCheck.{RowCheck}
+use Rattle.judge.specs.declared.RowCheck.TheVariants.{Shape, Interval, Callee, Keys}
 
 -- by the refusal's number; ds are the function's definitions
 unfoldable pub row_ok : ℕ → List ℕ → List ℕ → List Ref → ℕ → Row → Bool
@@ -16,6 +18,13 @@ row_ok which ws functions ds =
     (pick (eqb which 5) (fit_row ws ds)
     (pick (eqb which 6) (row_callee ws functions)
     (row_keys ws)))
+
+-- the refusal's number of each pass
+abbrev pub check_number : RowCheck → ℕ
+check_number Shape = 3
+check_number Interval = 5
+check_number Callee = 6
+check_number Keys = 7
 
 -- the instructions of a live block are there
 abbrev pub Placed : List ℕ → ℕ → Type 0

@@ -9,88 +9,52 @@ ghost use Rattle.rows.specs.Rows.{params, instr, term, instr_rows, block_rows, r
 ghost use Rattle.shape.specs.Shape.{shape_ok};
 ghost use Rattle.fit.specs.Tabled.{Tabled, marks, marked};
 ghost use Rattle.judge.specs.Judged.{verdict_number, unfit};
-ghost use Rattle.judge.specs.Passes.{row_ok, Placed, unfit_rows};
+ghost use Rattle.judge.specs.Passes.{row_ok, check_number, Placed, unfit_rows};
 
+use refusal::Refusal;
+
+// What one pass over the rows asks of each.
 #[derive(Clone, Copy)]
-pub enum Verdict {
-    Fit,
-    BadWord,
-    TooMany,
-    BadShape,
-    DoubleDef,
-    BadInterval,
-    UnknownFunc,
-    BadKey,
+enum RowCheck {
+    Shape,
+    Interval,
+    Callee,
+    Keys,
 }
 
-// Document 01's number.
-pub fn number_of(v: Verdict) -> u8
-    ensures { result ≡ verdict_number v }
+// A row of parameters, row r: they call nothing and have no keys.
+fn params_pass(ws: &[u32], b: u32, r: u16, which: RowCheck) -> bool
+    ensures { (functions : List ℕ) (ds : List Ref) → result ≡ row_ok (check_number which) ws.now functions ds r (params b) }
 {
-    match v {
-        Verdict::Fit => 0,
-        Verdict::BadWord => 1,
-        Verdict::TooMany => 2,
-        Verdict::BadShape => 3,
-        Verdict::DoubleDef => 4,
-        Verdict::BadInterval => 5,
-        Verdict::UnknownFunc => 6,
-        Verdict::BadKey => 7,
+    match which {
+        RowCheck::Shape => shape::params_shape(ws, b),
+        RowCheck::Interval => fit::fit_params(ws, b, r as u32),
+        RowCheck::Callee | RowCheck::Keys => true,
     }
-}
-
-// The refusals that one pass over the rows answers, by their numbers.
-const BAD_SHAPE: u8 = 3;
-
-const BAD_INTERVAL: u8 = 5;
-
-const UNKNOWN_FUNC: u8 = 6;
-
-const BAD_KEY: u8 = 7;
-
-// A row of parameters, row r, in the pass for a refusal: they call nothing and have no keys.
-fn params_pass(ws: &[u32], b: u32, r: u16, which: u8) -> bool
-    ensures { (functions : List ℕ) (ds : List Ref) → result ≡ row_ok which ws.now functions ds r (params b) }
-{
-    if which == BAD_SHAPE {
-        return shape::params_shape(ws, b);
-    }
-    if which == BAD_INTERVAL {
-        return fit::fit_params(ws, b, r as u32);
-    }
-    true
 }
 
 // An instruction's row.
-fn instr_pass(ws: &[u32], functions: &[u64], rows: &[u32], i: u32, r: u16, which: u8) -> bool
-    ensures { (ds : List Ref) → Tabled rows.now ds → result ≡ row_ok which ws.now functions.now ds r (instr i) }
+fn instr_pass(ws: &[u32], functions: &[u64], rows: &[u32], i: u32, r: u16, which: RowCheck) -> bool
+    ensures { (ds : List Ref) → Tabled rows.now ds → result ≡ row_ok (check_number which) ws.now functions.now ds r (instr i) }
 {
-    if which == BAD_SHAPE {
-        return shape::instr_shape(ws, i);
+    match which {
+        RowCheck::Shape => shape::instr_shape(ws, i),
+        RowCheck::Interval => fit::fit_instr(ws, rows, i, r as u32),
+        RowCheck::Callee => fit::callee_instr(ws, functions, i),
+        RowCheck::Keys => fit::keys_instr(ws, i),
     }
-    if which == BAD_INTERVAL {
-        return fit::fit_instr(ws, rows, i, r as u32);
-    }
-    if which == UNKNOWN_FUNC {
-        return fit::callee_instr(ws, functions, i);
-    }
-    fit::keys_instr(ws, i)
 }
 
 // A terminator's row.
-fn term_pass(ws: &[u32], functions: &[u64], rows: &[u32], b: u32, r: u16, which: u8) -> bool
-    ensures { (ds : List Ref) → Tabled rows.now ds → result ≡ row_ok which ws.now functions.now ds r (term b) }
+fn term_pass(ws: &[u32], functions: &[u64], rows: &[u32], b: u32, r: u16, which: RowCheck) -> bool
+    ensures { (ds : List Ref) → Tabled rows.now ds → result ≡ row_ok (check_number which) ws.now functions.now ds r (term b) }
 {
-    if which == BAD_SHAPE {
-        return shape::term_shape(ws, b);
+    match which {
+        RowCheck::Shape => shape::term_shape(ws, b),
+        RowCheck::Interval => fit::fit_term(ws, rows, b, r as u32),
+        RowCheck::Callee => fit::callee_term(ws, functions, b),
+        RowCheck::Keys => fit::keys_term(ws, b),
     }
-    if which == BAD_INTERVAL {
-        return fit::fit_term(ws, rows, b, r as u32);
-    }
-    if which == UNKNOWN_FUNC {
-        return fit::callee_term(ws, functions, b);
-    }
-    fit::keys_term(ws, b)
 }
 
 // The n instructions from the first on, of which the first has row r.
@@ -101,25 +65,18 @@ fn instrs_pass(
     first: u32,
     n: u32,
     r: u16,
-    which: u8,
+    which: RowCheck,
 ) -> bool
     requires { (first + n < 4294967296) × (r + n < 65536) }
-    ensures { (ds : List Ref) → Tabled rows.now ds → result ≡ every (row_ok which ws.now functions.now ds) r (instr_rows first n) }
+    ensures { (ds : List Ref) → Tabled rows.now ds → result ≡ every (row_ok (check_number which) ws.now functions.now ds) r (instr_rows first n) }
 {
-    let mut j = 0;
-    while j < n {
-        if !instr_pass(ws, functions, rows, first + j, r + (j as u16), which) {
-            return false;
-        }
-        j += 1;
-    }
-    true
+    (0..n).all(|j| instr_pass(ws, functions, rows, first + j, r + (j as u16), which))
 }
 
 // One block, from row r on: nothing of a tombstone, else its parameters, its instructions and its terminator.
-fn block_pass(ws: &[u32], functions: &[u64], rows: &[u32], b: u32, r: u16, which: u8) -> bool
-    requires { (r + length (block_rows ws.now b) ≤ most_rows) × ((which ≡ 3) ⊎ Placed ws.now b) }
-    ensures { (ds : List Ref) → Tabled rows.now ds → result ≡ every (row_ok which ws.now functions.now ds) r (block_rows ws.now b) }
+fn block_pass(ws: &[u32], functions: &[u64], rows: &[u32], b: u32, r: u16, which: RowCheck) -> bool
+    requires { (r + length (block_rows ws.now b) ≤ most_rows) × ((which ≡ RowCheck.Shape) ⊎ Placed ws.now b) }
+    ensures { (ds : List Ref) → Tabled rows.now ds → result ≡ every (row_ok (check_number which) ws.now functions.now ds) r (block_rows ws.now b) }
 {
     if input::block_field(ws, b, 1) != 0 {
         return true;
@@ -148,19 +105,16 @@ fn rows_in(ws: &[u32], b: u32) -> u16
 }
 
 // All rows, in the pass for a refusal, by a table of the rows that define values.
-fn pass(ws: &[u32], functions: &[u64], rows: &[u32], which: u8) -> bool
-    requires { (length (rows_of ws.now) ≤ most_rows) × ((which ≡ 3) ⊎ ((b : ℕ) → b < blocks ws.now → Placed ws.now b)) }
-    ensures { (ds : List Ref) → Tabled rows.now ds → result ≡ every (row_ok which ws.now functions.now ds) 0 (rows_of ws.now) }
+fn pass(ws: &[u32], functions: &[u64], rows: &[u32], which: RowCheck) -> bool
+    requires { (length (rows_of ws.now) ≤ most_rows) × ((which ≡ RowCheck.Shape) ⊎ ((b : ℕ) → b < blocks ws.now → Placed ws.now b)) }
+    ensures { (ds : List Ref) → Tabled rows.now ds → result ≡ every (row_ok (check_number which) ws.now functions.now ds) 0 (rows_of ws.now) }
 {
-    let end = input::head_field(ws, 4);
-    let mut b = 0;
     let mut r: u16 = 0;
-    while b < end {
+    for b in 0..input::head_field(ws, 4) {
         if !block_pass(ws, functions, rows, b, r, which) {
             return false;
         }
         r += rows_in(ws, b);
-        b += 1;
     }
     true
 }
@@ -170,13 +124,9 @@ fn shape_ok(ws: &[u32], functions: &[u64], rows: &[u32]) -> bool
     requires { (length (rows_of ws.now) ≤ most_rows) × ((v : ℕ) → get_or rows.now v 0 ≡ 0) }
     ensures { result ≡ shape_ok ws.now }
 {
-    if input::head_field(ws, 4) == 0 {
-        return false;
-    }
-    if input::block_field(ws, 0, 1) != 0 {
-        return false;
-    }
-    pass(ws, functions, rows, BAD_SHAPE)
+    input::head_field(ws, 4) != 0
+        && input::block_field(ws, 0, 1) == 0
+        && pass(ws, functions, rows, RowCheck::Shape)
 }
 
 // Refusal 4 fills the table: the n instructions from the first on, of which the first has row r.
@@ -184,12 +134,10 @@ fn define_instrs(ws: &[u32], table: &mut [u32], first: u32, n: u32, r: u16) -> b
     requires { (first + n < 4294967296) × (r + n < 65536) }
     ensures { marks table.new result ≡ marked (over_rows (row_defs ws.now) r (instr_rows first n)) (marks table.old true) }
 {
-    let mut j = 0;
-    while j < n {
+    for j in 0..n {
         if !fit::define_instr(ws, table, first + j, r + (j as u16)) {
             return false;
         }
-        j += 1;
     }
     true
 }
@@ -215,51 +163,48 @@ fn define_all(ws: &[u32], table: &mut [u32]) -> bool
     requires { (length (rows_of ws.now) ≤ most_rows) × ((b : ℕ) → b < blocks ws.now → Placed ws.now b) }
     ensures { marks table.new result ≡ marked (defs_of ws.now) (marks table.old true) }
 {
-    let end = input::head_field(ws, 4);
-    let mut b = 0;
     let mut r: u16 = 0;
-    while b < end {
+    for b in 0..input::head_field(ws, 4) {
         if !define_block(ws, table, b, r) {
             return false;
         }
         r += rows_in(ws, b);
-        b += 1;
     }
     true
 }
 
 // Refusals 3 to 7 of few enough rows, by a table that is zero and has room for every value.
-fn judge_rows(ws: &[u32], functions: &[u64], table: &mut [u32]) -> Verdict
+fn judge_rows(ws: &[u32], functions: &[u64], table: &mut [u32]) -> Result<(), Refusal>
     requires { (length (rows_of ws.now) ≤ most_rows) × (values ws.now ≤ length table.old) × ((v : ℕ) → get_or table.old v 0 ≡ 0) }
     ensures { verdict_number result ≡ unfit_rows ws.now functions.now }
 {
     if !shape_ok(ws, functions, table) {
-        return Verdict::BadShape;
+        return Err(Refusal::BadShape);
     }
     if !define_all(ws, table) {
-        return Verdict::DoubleDef;
+        return Err(Refusal::DoubleDef);
     }
-    if !pass(ws, functions, table, BAD_INTERVAL) {
-        return Verdict::BadInterval;
+    if !pass(ws, functions, table, RowCheck::Interval) {
+        return Err(Refusal::BadInterval);
     }
-    if !pass(ws, functions, table, UNKNOWN_FUNC) {
-        return Verdict::UnknownFunc;
+    if !pass(ws, functions, table, RowCheck::Callee) {
+        return Err(Refusal::UnknownFunc);
     }
-    if !pass(ws, functions, table, BAD_KEY) {
-        return Verdict::BadKey;
+    if !pass(ws, functions, table, RowCheck::Keys) {
+        return Err(Refusal::BadKey);
     }
-    Verdict::Fit
+    Ok(())
 }
 
 // Any words, any function table. Changes nothing.
-pub fn judge(ws: &[u32], functions: &[u64]) -> Verdict
+pub fn judge(ws: &[u32], functions: &[u64]) -> Result<(), Refusal>
     ensures { verdict_number result ≡ unfit registers ws.now functions.now }
 {
     if !input::words_ok(ws) {
-        return Verdict::BadWord;
+        return Err(Refusal::BadWord);
     }
     if !shape::counts_ok(ws) {
-        return Verdict::TooMany;
+        return Err(Refusal::TooMany);
     }
     let mut table = [0u32; 4096];
     judge_rows(ws, functions, &mut table)

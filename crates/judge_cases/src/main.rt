@@ -5,12 +5,14 @@
 // words the function table has, each of these, low half first, how many words the function has, and these.
 #![tactic(auto)]
 
-ghost use Rattle.std.specs.Prelude.{◌≡◌, ◌+◌, ◌≤◌, ◌<◌, length};
-ghost use Rattle.judge.specs.Judged.{verdict_number};
+ghost use Rattle.std.specs.Prelude.{◌≡◌, ◌≤◌};
 
-use compile::{Answer, Compiled};
-use judge::Verdict;
 use lists::Used;
+use records::CutShort;
+use refusal::Refusal;
+
+// How many functions a case may have.
+const MOST_FUNCTIONS: usize = 65536;
 
 // How many cases there were, and of how many the verdict differs; how many calls of the compiler, how many with a used length too many, and how
 // many of both differ.
@@ -23,120 +25,63 @@ struct Tally {
     wrong: u32,
 }
 
-// Not whole where the file ends too early, or a case is larger than the buffers.
+// The used length that is one too many in a call, by its number.
 #[derive(Clone, Copy)]
-struct Replayed {
-    whole: bool,
-    tally: Tally,
+enum Over {
+    Ops = 1,
+    Globals,
+    Builtins,
+    Switches,
+    Targets,
+    Lookups,
+    Values,
 }
 
-// Document 01's number.
-fn number_of(v: Verdict) -> u32
-    ensures { result ≡ verdict_number v }
-{
-    match v {
-        Verdict::Fit => 0,
-        Verdict::BadWord => 1,
-        Verdict::TooMany => 2,
-        Verdict::BadShape => 3,
-        Verdict::DoubleDef => 4,
-        Verdict::BadInterval => 5,
-        Verdict::UnknownFunc => 6,
-        Verdict::BadKey => 7,
-    }
-}
-
-// The next word of the file, 0 past its end.
-fn next_word() -> u32 {
-    let mut bytes = [0u8; 4];
-    let n = io::read_full(0, &mut bytes);
-    replay::word(&bytes[..n], 0)
-}
-
-// The next n bytes of the file: are they there, and is there room for them?
-fn next_bytes(bytes: &mut [u8], n: usize) -> bool {
-    if bytes.len() < n {
-        return false;
-    }
-    let got = io::read_full(0, &mut bytes[..n]);
-    got == n
-}
-
-// The next n words of the file, as the first of `ws`.
-fn next_words(bytes: &mut [u8], ws: &mut [u32], n: u32) -> bool {
-    let count = n as usize;
-    if !next_bytes(bytes, 4 * count) {
-        return false;
-    }
-    let mut i = 0;
-    while i < count {
-        base::set32(ws, i, replay::word(bytes, i));
-        i += 1;
-    }
-    true
-}
-
-// The next n words of 64 bits.
-fn next_table(bytes: &mut [u8], functions: &mut [u64], n: u32) -> bool {
-    let count = n as usize;
-    if !next_bytes(bytes, 8 * count) {
-        return false;
-    }
-    let mut i = 0;
-    while i < count {
-        base::set64(functions, i, replay::wide(bytes, 2 * i));
-        i += 1;
-    }
-    true
-}
-
-// Document 01's number of the compiler's answer.
-fn answer_number(a: Answer) -> u32 {
-    match a {
-        Answer::Done => 0,
-        Answer::BadWord => 1,
-        Answer::TooMany => 2,
-        Answer::BadShape => 3,
-        Answer::DoubleDef => 4,
-        Answer::BadInterval => 5,
-        Answer::UnknownFunc => 6,
-        Answer::BadKey => 7,
-        Answer::NoSlot => 8,
-        Answer::NoRoom => 9,
-    }
+// What of a call is not as it has to be.
+#[derive(Clone, Copy)]
+enum Thing {
+    Answer,
+    UsedLengths,
+    FunctionTable,
+    Lists,
+    Tables,
+    Room,
 }
 
 fn counted(n: u32, one_more: bool) -> u32 {
-    if !one_more {
-        return n;
-    }
-    if n < 4294967295 { n + 1 } else { n }
+    n.saturating_add(u32::from(one_more))
 }
 
-// A used length, or one more than fits if it is length k that passes its buffer.
-fn length_of(over: u32, k: u32, used: usize, most: usize) -> usize {
-    if over == k { most } else { used }
-}
-
-// The used lengths of the lent buffers. 1 to 7 name one of them that passes its buffer.
-fn used_for(over: u32) -> Used {
-    Used {
-        ops: length_of(over, 1, 4, 7),
-        globals: length_of(over, 2, 1, 4),
-        builtins: length_of(over, 3, 1, 5),
-        switches: length_of(over, 4, 1, 3),
-        targets: length_of(over, 5, 2, 5),
-        lookups: length_of(over, 6, 1, 3),
-        values: length_of(over, 7, 1, 4),
+// The used lengths of the lent buffers, one of which passes its buffer.
+fn used_for(over: Option<Over>) -> Used {
+    let fit = Used {
+        ops: 4,
+        globals: 1,
+        builtins: 1,
+        switches: 1,
+        targets: 2,
+        lookups: 1,
+        values: 1,
+    };
+    match over {
+        None => fit,
+        Some(Over::Ops) => Used { ops: 7, ..fit },
+        Some(Over::Globals) => Used { globals: 4, ..fit },
+        Some(Over::Builtins) => Used { builtins: 5, ..fit },
+        Some(Over::Switches) => Used { switches: 3, ..fit },
+        Some(Over::Targets) => Used { targets: 5, ..fit },
+        Some(Over::Lookups) => Used { lookups: 3, ..fit },
+        Some(Over::Values) => Used { values: 4, ..fit },
     }
 }
 
 // The number that a call has to answer: a used length too many is 2, after which only 1 stands.
-fn number_for(expected: u32, over: u32) -> u32 {
-    if expected == 1 {
-        return 1;
+fn number_for(expected: u32, over: Option<Over>) -> u32 {
+    if expected == 1 || over.is_none() {
+        expected
+    } else {
+        2
     }
-    if over == 0 { expected } else { 2 }
 }
 
 // A function that fits has no slot or no room in such small buffers.
@@ -155,102 +100,72 @@ fn left_at(mark: u64, i: usize, words: usize, used: usize) -> u64
     if i / words < used { mark | i as u64 } else { 0 }
 }
 
-fn kept32(buf: &[u32], mark: u64, words: usize, used: usize) -> bool
+// Does a buffer hold that, all of it?
+fn kept<T: Copy>(buf: &[T], mark: u64, words: usize, used: usize) -> bool
+where
+    u64: From<T>,
     requires { 1 ≤ words }
 {
-    let mut i = 0;
-    while i < buf.len() {
-        if base::get32(buf, i) as u64 != left_at(mark, i, words, used) {
-            return false;
-        }
-        i += 1;
-    }
-    true
+    buf.iter()
+        .enumerate()
+        .all(|(i, x)| left_at(mark, i, words, used) == u64::from(*x))
 }
 
-fn kept64(buf: &[u64], mark: u64, words: usize, used: usize) -> bool
-    requires { 1 ≤ words }
-{
-    let mut i = 0;
-    while i < buf.len() {
-        if base::get64(buf, i) != left_at(mark, i, words, used) {
-            return false;
-        }
-        i += 1;
-    }
-    true
+fn unless(right: bool, thing: Thing) -> Option<Thing> {
+    if right { None } else { Some(thing) }
 }
 
-fn equal64(a: &[u64], b: &[u64]) -> bool {
-    let mut i = 0;
-    while i < a.len() {
-        if base::get64(a, i) != base::get64(b, i) {
-            return false;
-        }
-        i += 1;
-    }
-    a.len() == b.len()
+// What differs: the answer, the used lengths, the function table;
+fn wrong_answer(
+    c: Result<Used, Refusal>,
+    b: Used,
+    number: u32,
+    functions: &[u64],
+    table: &[u64],
+) -> Option<Thing> {
+    unless(
+        right_number(refusal::number_for(c) as u32, number),
+        Thing::Answer,
+    )
+    .or(unless(c.unwrap_or(b) == b, Thing::UsedLengths))
+    .or(unless(functions == table, Thing::FunctionTable))
 }
 
-// What differs, 0 for nothing: the answer, the used lengths, the function table.
-fn wrong_answer(c: Compiled, b: Used, number: u32, functions: &[u64], table: &[u64]) -> u32 {
-    let answer = c.answer;
-    let a = c.used;
-    let code = (a.ops == b.ops) & (a.globals == b.globals) & (a.builtins == b.builtins);
-    let switches = (a.switches == b.switches) & (a.targets == b.targets);
-    let lookups = (a.lookups == b.lookups) & (a.values == b.values);
-    if !right_number(answer_number(answer), number) {
-        return 1;
-    }
-    if !(code & switches & lookups) {
-        return 2;
-    }
-    if equal64(functions, table) { 0 } else { 3 }
-}
-
-// The code and the lists are as they have to be;
-fn kept_lists(u: Used, ops: &[u64], spans: &[u32], globals: &[u64], builtins: &[u32]) -> bool {
-    let code = kept64(ops, 16, 1, u.ops) & kept32(spans, 32, 1, u.ops);
-    let lists = kept64(globals, 48, 2, u.globals) & kept32(builtins, 64, 1, u.builtins);
-    code & lists
+// the code and the lists;
+fn wrong_lists(
+    u: Used,
+    ops: &[u64],
+    spans: &[u32],
+    globals: &[u64],
+    builtins: &[u32],
+) -> Option<Thing> {
+    let code = kept(ops, 16, 1, u.ops) & kept(spans, 32, 1, u.ops);
+    let lists = kept(globals, 48, 2, u.globals) & kept(builtins, 64, 1, u.builtins);
+    unless(code & lists, Thing::Lists)
 }
 
 // the tables;
-fn kept_tables(
+fn wrong_tables(
     u: Used,
     switches: &[u64],
     targets: &[u32],
     lookups: &[u64],
     values: &[u64],
-) -> bool {
-    let switched = kept64(switches, 80, 3, u.switches) & kept32(targets, 96, 1, u.targets);
-    let looked = kept64(lookups, 112, 5, u.lookups) & kept64(values, 128, 2, u.values);
-    switched & looked
+) -> Option<Thing> {
+    let switched = kept(switches, 80, 3, u.switches) & kept(targets, 96, 1, u.targets);
+    let looked = kept(lookups, 112, 5, u.lookups) & kept(values, 128, 2, u.values);
+    unless(switched & looked, Thing::Tables)
 }
 
 // places and work room, of which nothing is kept.
-fn zero_room(places: &[u32], hints: &[u32], noted: &[u64], labels: &[u64]) -> bool {
-    let placed = kept32(places, 144, 1, 0) & kept32(hints, 160, 1, 0);
-    let worked = kept64(noted, 176, 1, 0) & kept64(labels, 192, 1, 0);
-    placed & worked
+fn wrong_room(places: &[u32], hints: &[u32], noted: &[u64], labels: &[u64]) -> Option<Thing> {
+    let placed = kept(places, 144, 1, 0) & kept(hints, 160, 1, 0);
+    let worked = kept(noted, 176, 1, 0) & kept(labels, 192, 1, 0);
+    unless(placed & worked, Thing::Room)
 }
 
-// The first of these that differs.
-fn first_of(answer: u32, lists: bool, tables: bool, room: bool) -> u32 {
-    if answer != 0 {
-        return answer;
-    }
-    if !lists {
-        return 4;
-    }
-    if !tables {
-        return 5;
-    }
-    if room { 0 } else { 6 }
-}
-
-// One call with small buffers that are full of marks, each word another, and partly used. It has to be refused with this number: what differs?
-fn wrong_call(ws: &[u32], table: &[u64], functions: &mut [u64], number: u32, over: u32) -> u32 {
+// One call with small buffers that are full of marks, each word another, and partly used. It has to be refused with this number: what differs first?
+fn wrong_call(ws: &[u32], table: &[u64], lent: &mut [u64], number: u32, u: Used) -> Option<Thing> {
     let mut ops = [16u64, 17, 18, 19, 20, 21];
     let mut spans = [32u32, 33, 34, 35, 36, 37];
     let mut globals = [48u64, 49, 50, 51, 52, 53];
@@ -263,10 +178,9 @@ fn wrong_call(ws: &[u32], table: &[u64], functions: &mut [u64], number: u32, ove
     let mut hints = [160u32, 161, 162, 163, 164];
     let mut noted = [176u64, 177, 178, 179, 180];
     let mut labels = [192u64, 193, 194, 195, 196];
-    let u = used_for(over);
     let c = compile::compile(
         ws,
-        functions,
+        lent,
         &mut ops,
         &mut spans,
         &mut globals,
@@ -281,49 +195,43 @@ fn wrong_call(ws: &[u32], table: &[u64], functions: &mut [u64], number: u32, ove
         &mut labels,
         u,
     );
-    let answer = wrong_answer(c, u, number, functions, table);
-    let lists = kept_lists(u, &ops, &spans, &globals, &builtins);
-    let tables = kept_tables(u, &switches, &targets, &lookups, &values);
-    let room = zero_room(&places, &hints, &noted, &labels);
-    first_of(answer, lists, tables, room)
+    wrong_answer(c, u, number, lent, table)
+        .or(wrong_lists(u, &ops, &spans, &globals, &builtins))
+        .or(wrong_tables(u, &switches, &targets, &lookups, &values))
+        .or(wrong_room(&places, &hints, &noted, &labels))
 }
 
 // The first verdict that differs.
 fn report_verdict(i: u32, answered: u32, expected: u32) {
     replay::write(b"case ");
-    replay::number(i as usize);
-    replay::write(b": ");
-    replay::number(answered as usize);
-    replay::write(b" answered, ");
-    replay::number(expected as usize);
-    replay::write(b" expected\n");
+    records::figure(i as usize, b": ");
+    records::figure(answered as usize, b" answered, ");
+    records::figure(expected as usize, b" expected\n");
 }
 
-fn write_thing(what: u32) {
-    match what {
-        1 => replay::write(b"the answer"),
-        2 => replay::write(b"used lengths"),
-        3 => replay::write(b"the function table"),
-        4 => replay::write(b"code or lists"),
-        5 => replay::write(b"tables"),
-        _ => replay::write(b"places or work room"),
-    }
+fn write_thing(thing: Thing) {
+    replay::write(match thing {
+        Thing::Answer => b"the answer",
+        Thing::UsedLengths => b"used lengths",
+        Thing::FunctionTable => b"the function table",
+        Thing::Lists => b"code or lists",
+        Thing::Tables => b"tables",
+        Thing::Room => b"places or work room",
+    });
 }
 
 // The first call that differs, and what of it: call 0 has used lengths that fit, call k has one too many of length k.
-fn report_call(i: u32, over: u32, what: u32) {
+fn report_call(i: u32, over: Option<Over>, thing: Thing) {
     replay::write(b"case ");
-    replay::number(i as usize);
-    replay::write(b", call ");
-    replay::number(over as usize);
-    replay::write(b": ");
-    write_thing(what);
+    records::figure(i as usize, b", call ");
+    records::figure(over.map_or(0, |k| k as usize), b": ");
+    write_thing(thing);
     replay::write(b" differ\n");
 }
 
 // The case's verdict; the case ends here.
 fn with_verdict(t: Tally, ws: &[u32], functions: &[u64], expected: u32) -> Tally {
-    let answered = number_of(judge::judge(ws, functions));
+    let answered = refusal::number_for(judge::judge(ws, functions)) as u32;
     let differs = answered != expected;
     if differs & (t.differ == 0) {
         report_verdict(t.cases, answered, expected);
@@ -331,107 +239,74 @@ fn with_verdict(t: Tally, ws: &[u32], functions: &[u64], expected: u32) -> Tally
     Tally {
         cases: counted(t.cases, true),
         differ: counted(t.differ, differs),
-        calls: t.calls,
-        over: t.over,
-        wrong: t.wrong,
+        ..t
     }
 }
 
-fn with_call(t: Tally, over: u32, what: u32) -> Tally {
-    let differs = what != 0;
-    if differs & (t.wrong == 0) {
-        report_call(t.cases, over, what);
+fn with_call(t: Tally, over: Option<Over>, what: Option<Thing>) -> Tally {
+    if let Some(thing) = what
+        && t.wrong == 0
+    {
+        report_call(t.cases, over, thing);
     }
     Tally {
-        cases: t.cases,
-        differ: t.differ,
-        calls: counted(t.calls, over == 0),
-        over: counted(t.over, over != 0),
-        wrong: counted(t.wrong, differs),
+        calls: counted(t.calls, over.is_none()),
+        over: counted(t.over, over.is_some()),
+        wrong: counted(t.wrong, what.is_some()),
+        ..t
     }
 }
 
 // The case's calls of the compiler: used lengths that fit, then each in turn one too many.
 fn with_calls(t: Tally, ws: &[u32], table: &[u64], functions: &mut [u64], expected: u32) -> Tally {
     let mut tally = t;
-    let mut over = 0;
-    while over < 8 {
-        base::copy64(functions, 0, table);
-        let what = wrong_call(ws, table, functions, number_for(expected, over), over);
+    for over in [
+        None,
+        Some(Over::Ops),
+        Some(Over::Globals),
+        Some(Over::Builtins),
+        Some(Over::Switches),
+        Some(Over::Targets),
+        Some(Over::Lookups),
+        Some(Over::Values),
+    ] {
+        base::copy(functions, 0, table);
+        let number = number_for(expected, over);
+        let what = wrong_call(ws, table, functions, number, used_for(over));
         tally = with_call(tally, over, what);
-        over += 1;
     }
     tally
 }
 
-// The first n words of `ws` with the first t of the table, of which the compiler is lent a copy.
-fn replay_part(
+// The next case of the file. The compiler is lent a copy of the function table.
+fn replay_case(
     tally: Tally,
-    ws: &[u32],
-    n: usize,
-    table: &[u64],
-    t: usize,
-    expected: u32,
-) -> Replayed {
-    let none = Replayed {
-        whole: false,
-        tally: tally,
-    };
-    if ws.len() < n {
-        return none;
+    bytes: &mut [u8],
+    ws: &mut [u32],
+    table: &mut [u64],
+) -> Result<Tally, CutShort> {
+    let expected = replay::next_word();
+    let t = records::next_list(bytes, table, 8)?;
+    let n = records::next_list(bytes, ws, 4)?;
+    if MOST_FUNCTIONS < t {
+        return Err(CutShort);
     }
-    if table.len() < t {
-        return none;
-    }
-    if 65536 < t {
-        return none;
-    }
-    let mut lent = no_functions();
+    let mut lent = records::filled::<u64, MOST_FUNCTIONS>(0);
     let called = with_calls(tally, &ws[..n], &table[..t], &mut lent[..t], expected);
-    let judged = with_verdict(called, &ws[..n], &table[..t], expected);
-    Replayed {
-        whole: true,
-        tally: judged,
-    }
-}
-
-// The next case of the file.
-fn replay_case(tally: Tally, bytes: &mut [u8], ws: &mut [u32], table: &mut [u64]) -> Replayed {
-    let none = Replayed {
-        whole: false,
-        tally: tally,
-    };
-    let expected = next_word();
-    let t = next_word();
-    if !next_table(bytes, table, t) {
-        return none;
-    }
-    let n = next_word();
-    if !next_words(bytes, ws, n) {
-        return none;
-    }
-    replay_part(tally, ws, n as usize, table, t as usize, expected)
+    Ok(with_verdict(called, &ws[..n], &table[..t], expected))
 }
 
 fn report(t: Tally) {
-    replay::number(t.cases as usize);
-    replay::write(b" cases, ");
-    replay::number(t.differ as usize);
-    replay::write(b" differ\n");
-}
-
-fn report_calls(t: Tally) {
-    replay::number(t.calls as usize);
-    replay::write(b" calls of the compiler and ");
-    replay::number(t.over as usize);
-    replay::write(b" with a used length too many, ");
-    replay::number(t.wrong as usize);
-    replay::write(b" differ\n");
+    records::figure(t.cases as usize, b" cases, ");
+    records::figure(t.differ as usize, b" differ\n");
+    records::figure(t.calls as usize, b" calls of the compiler and ");
+    records::figure(t.over as usize, b" with a used length too many, ");
+    records::figure(t.wrong as usize, b" differ\n");
 }
 
 // All cases: how many, and how many differ.
-fn replay_all(bytes: &mut [u8], ws: &mut [u32], table: &mut [u64]) {
-    let cases = next_word();
+fn replay_all(bytes: &mut [u8], ws: &mut [u32], table: &mut [u64]) -> Result<(), CutShort> {
+    let cases = replay::next_word();
     let mut tally = Tally {
         cases: 0,
         differ: 0,
@@ -439,42 +314,17 @@ fn replay_all(bytes: &mut [u8], ws: &mut [u32], table: &mut [u64]) {
         over: 0,
         wrong: 0,
     };
-    let mut done = 0;
-    while done < cases {
-        let r = replay_case(tally, bytes, ws, table);
-        if !r.whole {
-            replay::write(b"the file is cut short\n");
-            return;
-        }
-        tally = r.tally;
-        done += 1;
+    for _ in 0..cases {
+        tally = replay_case(tally, bytes, ws, table)?;
     }
     report(tally);
-    report_calls(tally);
-}
-
-// As large as the largest case: a function of 16,384 rows with a record for each, or a table of 65,534 functions.
-fn no_bytes() -> [u8; 655360]
-    ensures { 655360 ≡ length result }
-{
-    [0; 655360]
-}
-
-fn no_words() -> [u32; 163840]
-    ensures { 163840 ≡ length result }
-{
-    [0; 163840]
-}
-
-fn no_functions() -> [u64; 65536]
-    ensures { 65536 ≡ length result }
-{
-    [0; 65536]
+    Ok(())
 }
 
 fn main() {
-    let mut bytes = no_bytes();
-    let mut ws = no_words();
-    let mut table = no_functions();
-    replay_all(&mut bytes, &mut ws, &mut table);
+    // as large as the largest case: a function of 16,384 rows with a record for each, or a table of 65,534 functions
+    let mut bytes = records::filled::<u8, 655360>(0);
+    let mut ws = records::filled::<u32, 163840>(0);
+    let mut table = records::filled::<u64, MOST_FUNCTIONS>(0);
+    records::report_cut(replay_all(&mut bytes, &mut ws, &mut table));
 }

@@ -14,10 +14,18 @@
 
 mod text;
 
-use op::Op;
-use std::num::{wrapping_add_u64, wrapping_add_usize};
-use text::{STDOUT_FILENO, constant, hex, number, padded, signed32, signed64, wide_field};
-pub use text::{end, field, head, refusal, write};
+use opnames::Stream;
+use std::fmt;
+use std::fmt::Write;
+pub use text::Verdict;
+use text::{Constant, Entry, Mnemonic, Word};
+
+// Which of the two forms.
+#[derive(Clone, Copy, PartialEq, Eq)]
+pub enum Form {
+    Listing,
+    Plain,
+}
 
 // The function table and the lists of a program.
 pub type Table = [u64; 4096];
@@ -38,430 +46,287 @@ pub type Lookups = [u64; 20480];
 
 pub type Values = [u64; 65536];
 
-// Six words for each function: its id, what became of it (0 for nothing), its first op and its last one's successor, where its places start and
-// how many.
-pub type Facts = [u64; 1536];
+// What became of a function of the file.
+#[derive(Clone, Copy)]
+pub enum State {
+    Unused,
+    // where its ops start and end, where its places start and how many
+    Compiled {
+        from: usize,
+        to: usize,
+        at: usize,
+        values: usize,
+    },
+}
+
+// A function that was reached.
+#[derive(Clone, Copy)]
+pub struct Fact {
+    pub id: u32,
+    pub state: State,
+}
+
+pub type Facts = [Option<Fact>; 256];
 
 // The places of all functions one behind the other: a value has three words of the file at least.
 pub type Kept = [u32; 87424];
 
-pub const COMPILED: u64 = 1;
-
-pub const UNUSED: u64 = 2;
-
 // Where a title says how many there are; the plain form has none.
-fn title(plain: bool, name: &[u8], n: usize) {
-    if !plain {
-        write(b"\n");
-        write(name);
-        field(n as u64);
-        end();
+fn title(form: Form, name: &str, n: usize) -> fmt::Result {
+    match form {
+        Form::Listing => writeln!(Stream::Output, "\n{name} {n}"),
+        Form::Plain => Ok(()),
     }
 }
 
-// A byte of an op, if it uses it.
-fn byte_field(bit: u8, x: u8) {
-    if bit != 0 {
-        field(x as u64);
-    }
-}
-
-fn arrow(pc: u32) {
-    write(b" -> ");
-    number(pc as u64);
-}
-
-// An op's w: a jump's target, a number in two's complement, or a number with its name.
-fn last_field(o: Op) {
-    let code = o.code;
-    let w = o.w;
-    match code {
-        5 => field(w as u64),
-        6 | 7 | 10 | 11 => arrow(w),
-        3 | 52..=60 => {
-            write(b" ");
-            signed32(w)
+fn op_line(form: Form, pc: usize, word: u64, span: u32) -> fmt::Result {
+    match form {
+        Form::Listing => {
+            let op = Mnemonic(op::unpack(word));
+            writeln!(Stream::Output, "{pc:5}  {word:016x}  {op}  span {span}")
         }
-        _ => {
-            write(b" ");
-            opnames::write_op(STDOUT_FILENO, code, 4);
-            field(w as u64)
+        Form::Plain => writeln!(Stream::Output, "op {pc} {word:016x} {span}"),
+    }
+}
+
+pub fn op_lines(form: Form, ops: &Ops, spans: &Spans, from: usize, to: usize) -> fmt::Result {
+    for pc in from..to {
+        op_line(
+            form,
+            pc,
+            base::get_or(ops, pc, 0),
+            base::get_or(spans, pc, 0),
+        )?;
+    }
+    Ok(())
+}
+
+// The ops of function f under its heading.
+fn function_ops(f: usize, fact: Fact, ops: &Ops, spans: &Spans) -> fmt::Result {
+    let id = fact.id;
+    match fact.state {
+        State::Unused => writeln!(Stream::Output, "function {f}, id {id}, unused"),
+        State::Compiled { from, to, .. } => {
+            writeln!(Stream::Output, "function {f}, id {id}, from pc {from}")?;
+            op_lines(Form::Listing, ops, spans, from, to)
         }
     }
-}
-
-// An op by name, with the fields that it uses.
-fn mnemonic(o: Op) {
-    let fields = op::fields(o.code);
-    opnames::write_op(STDOUT_FILENO, o.code, 0);
-    byte_field(fields % 2, o.a);
-    if op::in_bytes(o.code) {
-        write(b" ");
-        signed32(o.w);
-        arrow(op::target_of(o));
-        return;
-    }
-    byte_field(fields / 2 % 2, o.b);
-    byte_field(fields / 4 % 2, o.c);
-    if fields / 8 % 2 != 0 {
-        last_field(o);
-    }
-}
-
-fn op_line(plain: bool, pc: usize, word: u64, span: u32) {
-    if plain {
-        head(b"op", pc);
-        wide_field(word);
-        field(span as u64);
-        end();
-        return;
-    }
-    padded(pc);
-    write(b"  ");
-    hex(word);
-    write(b"  ");
-    mnemonic(op::unpack(word));
-    write(b"  span");
-    field(span as u64);
-    end();
-}
-
-pub fn op_lines(plain: bool, ops: &Ops, spans: &Spans, from: usize, to: usize) {
-    let mut pc = from;
-    while pc < to {
-        op_line(plain, pc, base::get64(ops, pc), base::get32(spans, pc));
-        pc += 1;
-    }
-}
-
-// Word k of what is noted of function f.
-fn fact(facts: &Facts, f: usize, k: usize) -> usize {
-    if 256 <= f {
-        return 0;
-    }
-    base::get64(facts, wrapping_add_usize(6 * f, k)) as usize
-}
-
-// How a heading of function f starts.
-pub fn heading(what: &[u8], f: usize, id: u64) {
-    head(what, f);
-    write(b", id");
-    field(id);
-}
-
-// The ops of function f under its heading, if it was reached.
-fn function_ops(facts: &Facts, ops: &Ops, spans: &Spans, f: usize) {
-    let state = fact(facts, f, 1) as u64;
-    if state == 0 {
-        return;
-    }
-    heading(b"function", f, fact(facts, f, 0) as u64);
-    if state == UNUSED {
-        write(b", unused\n");
-        return;
-    }
-    let from = fact(facts, f, 2);
-    write(b", from pc");
-    field(from as u64);
-    end();
-    op_lines(false, ops, spans, from, fact(facts, f, 3));
 }
 
 // The ops of all functions, each under its heading.
-pub fn functions(facts: &Facts, ops: &Ops, spans: &Spans, count: usize) {
-    let mut f = 0;
-    while f < count {
-        function_ops(facts, ops, spans, f);
-        f += 1;
+pub fn functions(facts: &Facts, ops: &Ops, spans: &Spans) -> fmt::Result {
+    for (f, fact) in facts.iter().enumerate() {
+        if let Some(fact) = fact {
+            function_ops(f, *fact, ops, spans)?;
+        }
     }
-}
-
-// Word k of the record that starts at `at`.
-fn word_at(list: &[u64], at: usize, k: usize) -> u64 {
-    base::get64(list, wrapping_add_usize(at, k))
+    Ok(())
 }
 
 // A constant with its number.
-fn pair_line(plain: bool, name: &[u8], i: usize, kind: u64, payload: u64) {
-    if plain {
-        head(name, i);
-        field(kind);
-        wide_field(payload);
-        end();
-        return;
+fn pair_line(form: Form, name: &str, i: usize, c: Constant) -> fmt::Result {
+    match form {
+        Form::Listing => writeln!(Stream::Output, "{i:5}  {c}"),
+        Form::Plain => {
+            let kind = c.kind;
+            let payload = c.payload;
+            writeln!(Stream::Output, "{name} {i} {kind} {payload:016x}")
+        }
     }
-    padded(i);
-    write(b"  ");
-    constant(kind, payload);
-    end();
 }
 
 // The first n constants of a list of pairs.
-pub fn pair_lines(plain: bool, name: &[u8], list: &[u64], n: usize) {
-    let mut i = 0;
-    let mut at = 0;
-    while i < n {
-        let kind = base::get64(list, at);
-        let payload = word_at(list, at, 1);
-        pair_line(plain, name, i, kind, payload);
-        at = wrapping_add_usize(at, 2);
-        i += 1;
+fn pair_lines(form: Form, name: &str, list: &[u64], n: usize) -> fmt::Result {
+    let (pairs, _) = list.as_chunks::<2>();
+    for (i, &[kind, payload]) in pairs.iter().take(n).enumerate() {
+        pair_line(form, name, i, Constant { kind, payload })?;
     }
+    Ok(())
 }
 
 // The first n numbers of a list.
-fn number_lines(plain: bool, name: &[u8], list: &[u32], n: usize) {
-    let mut i = 0;
-    while i < n {
-        if plain {
-            head(name, i);
-        } else {
-            padded(i);
-            write(b" ");
+fn number_lines(form: Form, name: &str, list: &[u32], n: usize) -> fmt::Result {
+    for (i, number) in list.iter().take(n).enumerate() {
+        match form {
+            Form::Listing => writeln!(Stream::Output, "{i:5}  {number}")?,
+            Form::Plain => writeln!(Stream::Output, "{name} {i} {number}")?,
         }
-        field(base::get32(list, i) as u64);
-        end();
-        i += 1;
     }
+    Ok(())
 }
 
-pub fn list_lines(plain: bool, globals: &Globals, n: usize, builtins: &Builtins, m: usize) {
-    title(plain, b"globals", n);
-    pair_lines(plain, b"global", globals, n);
-    title(plain, b"builtins", m);
-    number_lines(plain, b"builtin", builtins, m);
+pub fn list_lines(
+    form: Form,
+    globals: &Globals,
+    n: usize,
+    builtins: &Builtins,
+    m: usize,
+) -> fmt::Result {
+    title(form, "globals", n)?;
+    pair_lines(form, "global", globals, n)?;
+    title(form, "builtins", m)?;
+    number_lines(form, "builtin", builtins, m)
 }
 
-// What a word of the function table stands for.
-fn entry_text(word: u64) {
-    match program::kind_of(word) {
-        1 => write(b"bytecode from pc"),
-        2 => write(b"native"),
-        _ => write(b"native, returns a double:"),
+fn entry_line(form: Form, id: usize, word: u64) -> fmt::Result {
+    match form {
+        Form::Listing => writeln!(Stream::Output, "{id:5}  {}", Entry(word)),
+        Form::Plain => writeln!(Stream::Output, "entry {id} {word:016x}"),
     }
-    field(program::number_of(word));
-}
-
-fn entry_line(plain: bool, id: usize, word: u64) {
-    if word == 0 {
-        return;
-    }
-    if plain {
-        head(b"entry", id);
-        wide_field(word);
-        end();
-        return;
-    }
-    padded(id);
-    write(b"  ");
-    entry_text(word);
-    end();
 }
 
 // The function table.
-pub fn entry_lines(plain: bool, table: &Table) {
-    if !plain {
-        write(b"\nfunction table\n");
+pub fn entry_lines(form: Form, table: &Table) -> fmt::Result {
+    if form == Form::Listing {
+        writeln!(Stream::Output, "\nfunction table")?;
     }
-    let mut id = 0;
-    while id < 4096 {
-        entry_line(plain, id, base::get64(table, id));
-        id += 1;
+    for (id, word) in table.iter().enumerate() {
+        if *word != 0 {
+            entry_line(form, id, *word)?;
+        }
     }
+    Ok(())
 }
 
 // The slots of a switch table for a person: each key, and where it goes.
-fn case_lines(targets: &Targets, first: u64, start: u64, count: u64) {
-    let mut k = 0;
-    while k < count {
-        write(b"       key ");
-        signed64(wrapping_add_u64(first, k));
-        arrow(base::get32(targets, wrapping_add_u64(start, k) as usize));
-        end();
-        k += 1;
+fn case_lines(targets: &Targets, first: u64, start: u64, count: u64) -> fmt::Result {
+    for (k, pc) in targets
+        .iter()
+        .skip(start as usize)
+        .take(count as usize)
+        .enumerate()
+    {
+        let key = first.wrapping_add(k as u64).cast_signed();
+        writeln!(Stream::Output, "       key {key} -> {pc}")?;
     }
+    Ok(())
 }
 
-fn switch_line(plain: bool, i: usize, first: u64, start: u64, count: u64, targets: &Targets) {
-    if plain {
-        head(b"switch", i);
-        wide_field(first);
-        field(start);
-        field(count);
-        end();
-        return;
+fn switch_line(form: Form, i: usize, table: &[u64; 3], targets: &Targets) -> fmt::Result {
+    let [first, start, count] = *table;
+    match form {
+        Form::Listing => {
+            writeln!(Stream::Output, "{i:5}  slots from {start}")?;
+            case_lines(targets, first, start, count)
+        }
+        Form::Plain => writeln!(Stream::Output, "switch {i} {first:016x} {start} {count}"),
     }
-    padded(i);
-    write(b"  slots from");
-    field(start);
-    end();
-    case_lines(targets, first, start, count);
 }
 
 // The first n switch tables, and the first m slots.
-pub fn switch_lines(plain: bool, switches: &Switches, n: usize, targets: &Targets, m: usize) {
-    title(plain, b"switch tables", n);
-    let mut i = 0;
-    let mut at = 0;
-    while i < n {
-        let first = base::get64(switches, at);
-        let start = word_at(switches, at, 1);
-        let count = word_at(switches, at, 2);
-        switch_line(plain, i, first, start, count, targets);
-        at = wrapping_add_usize(at, 3);
-        i += 1;
+pub fn switch_lines(
+    form: Form,
+    switches: &Switches,
+    n: usize,
+    targets: &Targets,
+    m: usize,
+) -> fmt::Result {
+    title(form, "switch tables", n)?;
+    let (tables, _) = switches.as_chunks::<3>();
+    for (i, table) in tables.iter().take(n).enumerate() {
+        switch_line(form, i, table, targets)?;
     }
-    if plain {
-        number_lines(true, b"target", targets, m);
+    match form {
+        Form::Listing => Ok(()),
+        Form::Plain => number_lines(form, "target", targets, m),
     }
-}
-
-// Slot k of a list of pairs, for a person.
-fn entry_value(values: &Values, at: u64) {
-    let i = wrapping_add_u64(at, at) as usize;
-    write(b": ");
-    constant(base::get64(values, i), word_at(values, i, 1));
-    end();
 }
 
 // The slots of a lookup table for a person: each key, and what it stands for.
-fn key_lines(values: &Values, first: u64, start: u64, count: u64) {
-    let mut k = 0;
-    while k < count {
-        write(b"       key ");
-        signed64(wrapping_add_u64(first, k));
-        entry_value(values, wrapping_add_u64(start, k));
-        k += 1;
+fn key_lines(values: &Values, first: u64, start: u64, count: u64) -> fmt::Result {
+    let (pairs, _) = values.as_chunks::<2>();
+    for (k, &[kind, payload]) in pairs
+        .iter()
+        .skip(start as usize)
+        .take(count as usize)
+        .enumerate()
+    {
+        let key = first.wrapping_add(k as u64).cast_signed();
+        let value = Constant { kind, payload };
+        writeln!(Stream::Output, "       key {key}: {value}")?;
     }
+    Ok(())
 }
 
-// The five words of the lookup table at `at`.
-fn lookup_line(i: usize, lookups: &Lookups, at: usize) {
-    head(b"lookup", i);
-    wide_field(base::get64(lookups, at));
-    field(word_at(lookups, at, 1));
-    field(word_at(lookups, at, 2));
-    field(word_at(lookups, at, 3));
-    wide_field(word_at(lookups, at, 4));
-    end();
-}
-
-fn lookup_text(i: usize, lookups: &Lookups, at: usize, values: &Values) {
-    let first = base::get64(lookups, at);
-    let start = word_at(lookups, at, 1);
-    let count = word_at(lookups, at, 2);
-    padded(i);
-    write(b"  slots from");
-    field(start);
-    write(b", default ");
-    constant(word_at(lookups, at, 3), word_at(lookups, at, 4));
-    end();
-    key_lines(values, first, start, count);
+fn lookup_line(form: Form, i: usize, table: &[u64; 5], values: &Values) -> fmt::Result {
+    let [first, start, count, kind, payload] = *table;
+    match form {
+        Form::Listing => {
+            let rest = Constant { kind, payload };
+            writeln!(Stream::Output, "{i:5}  slots from {start}, default {rest}")?;
+            key_lines(values, first, start, count)
+        }
+        Form::Plain => writeln!(
+            Stream::Output,
+            "lookup {i} {first:016x} {start} {count} {kind} {payload:016x}"
+        ),
+    }
 }
 
 // The first n lookup tables, and the first m slots.
-pub fn lookup_lines(plain: bool, lookups: &Lookups, n: usize, values: &Values, m: usize) {
-    title(plain, b"lookup tables", n);
-    let mut i = 0;
-    let mut at = 0;
-    while i < n {
-        if plain {
-            lookup_line(i, lookups, at);
-        } else {
-            lookup_text(i, lookups, at, values);
-        }
-        at = wrapping_add_usize(at, 5);
-        i += 1;
+pub fn lookup_lines(
+    form: Form,
+    lookups: &Lookups,
+    n: usize,
+    values: &Values,
+    m: usize,
+) -> fmt::Result {
+    title(form, "lookup tables", n)?;
+    let (tables, _) = lookups.as_chunks::<5>();
+    for (i, table) in tables.iter().take(n).enumerate() {
+        lookup_line(form, i, table, values)?;
     }
-    if plain {
-        pair_lines(true, b"value", values, m);
+    match form {
+        Form::Listing => Ok(()),
+        Form::Plain => pair_lines(form, "value", values, m),
     }
 }
 
-// A word of a map: 0 is no place, then come the registers, the slots and the floating registers.
-fn place_text(v: usize, word: u32) {
-    write(b"  v");
-    number(v as u64);
-    if word == 0 {
-        write(b": no place\n");
-        return;
-    }
-    if word <= 256 {
-        write(b": r");
-        number(word as u64 - 1);
-    } else if word <= 65792 {
-        write(b": slot ");
-        number(word as u64 - 257);
-    } else {
-        write(b": f");
-        number(word as u64 - 65793);
-    }
-    end();
-}
-
-fn place_line(plain: bool, f: usize, v: usize, word: u32) {
-    if plain {
-        head(b"place", f);
-        field(v as u64);
-        field(word as u64);
-        end();
-        return;
-    }
-    place_text(v, word);
+// How many slots n values have: one more than the highest.
+fn slots_of(kept: &Kept, at: usize, n: usize) -> u32 {
+    kept.iter()
+        .skip(at)
+        .take(n)
+        .filter_map(|word| match *word {
+            257..=65792 => Some(*word - 256),
+            _ => None,
+        })
+        .max()
+        .unwrap_or(0)
 }
 
 // The places of function f's n values.
-fn place_lines(plain: bool, f: usize, kept: &Kept, at: usize, n: usize) {
-    let mut v = 0;
-    while v < n {
-        place_line(plain, f, v, base::get32(kept, wrapping_add_usize(at, v)));
-        v += 1;
+fn place_lines(form: Form, f: usize, kept: &Kept, at: usize, n: usize) -> fmt::Result {
+    for (v, word) in kept.iter().skip(at).take(n).enumerate() {
+        match form {
+            Form::Listing => writeln!(Stream::Output, "  v{v}: {}", Word(*word))?,
+            Form::Plain => writeln!(Stream::Output, "place {f} {v} {word}")?,
+        }
     }
+    Ok(())
 }
 
-// One more than the highest slot, or so many.
-fn with_slot(slots: u32, word: u32) -> u32 {
-    if word <= 256 {
-        return slots;
+fn function_places(form: Form, f: usize, fact: Fact, kept: &Kept) -> fmt::Result {
+    let State::Compiled { at, values, .. } = fact.state else {
+        return Ok(());
+    };
+    if form == Form::Listing {
+        let id = fact.id;
+        let slots = slots_of(kept, at, values);
+        writeln!(
+            Stream::Output,
+            "\nplaces of function {f}, id {id}, slots {slots}"
+        )?;
     }
-    if 65792 < word {
-        return slots;
-    }
-    let n = word - 256;
-    if slots < n { n } else { slots }
-}
-
-// How many slots the values have.
-fn slots_of(kept: &Kept, at: usize, n: usize) -> u32 {
-    let mut slots = 0;
-    let mut v = 0;
-    while v < n {
-        slots = with_slot(slots, base::get32(kept, wrapping_add_usize(at, v)));
-        v += 1;
-    }
-    slots
-}
-
-fn function_places(plain: bool, facts: &Facts, kept: &Kept, f: usize) {
-    let at = fact(facts, f, 4);
-    let n = fact(facts, f, 5);
-    if fact(facts, f, 1) as u64 != COMPILED {
-        return;
-    }
-    if !plain {
-        heading(b"\nplaces of function", f, fact(facts, f, 0) as u64);
-        write(b", slots");
-        field(slots_of(kept, at, n) as u64);
-        end();
-    }
-    place_lines(plain, f, kept, at, n);
+    place_lines(form, f, kept, at, values)
 }
 
 // The places of all functions.
-pub fn places(plain: bool, facts: &Facts, kept: &Kept, count: usize) {
-    let mut f = 0;
-    while f < count {
-        function_places(plain, facts, kept, f);
-        f += 1;
+pub fn places(form: Form, facts: &Facts, kept: &Kept) -> fmt::Result {
+    for (f, fact) in facts.iter().enumerate() {
+        if let Some(fact) = fact {
+            function_places(form, f, *fact, kept)?;
+        }
     }
+    Ok(())
 }

@@ -1,23 +1,21 @@
 -- What the used lengths of made lists say: so many words stand in each buffer, and they are the list.
-use mathlib.Core.Path.{◌≡◌, refl, sym, ap, ◌∙◌}
-use mathlib.Core.Logic.{⊎_elim}
-use mathlib.Core.Bool.{true}
+use Rattle.std.specs.Prelude.{Ok}
+use mathlib.Core.Path.{◌≡◌, refl, ap, ◌∙◌}
+use mathlib.Core.Bool.{Bool, true, false}
 use Prim.Native.Nat.{ℕ, ◌+◌, ◌*◌, ◌/◌, ◌≤◌}
 use mathlib.Core.List.{List, [], ◌∷◌, ◌++◌}
 use native.Mathlib.Omega.{arith}
-use borrow.Author.Tests.{eq-eqb, ne_eqb}
 use lib.ListN.{length, take, drop, length-append}
 use lib.Seq.{sets, length-sets, length-take-le, take_at}
-use Rattle.base.proofs.Numbers.{same?}
+use Rattle.base.specs.Choice.{pick}
 use Rattle.base.proofs.Lists.{sets-front}
 use Rattle.input.specs.Layout.{values}
 use Rattle.interning.specs.Interning.{globals_after}
 use Rattle.lists.specs.declared.Used.{Used}
-use Rattle.lists.specs.declared.Tried.{Tried}
 use Rattle.lists.specs.Lists.{Lists, lists_after, lists_fit, global_words, Started, Made, Listed}
 use Rattle.lists.proofs.Sizes.{room-lent}
 use Rattle.lists.proofs.Kept.{globals_keep, targets_start}
-use Rattle.lists.proofs.Making.{fits_all, fits_parts}
+use Rattle.lists.proofs.Making.{fits_parts}
 
 -- the first n words of a buffer are the list
 pub record Stands (n : ℕ) (b l : List ℕ) : Type 0 where
@@ -69,11 +67,11 @@ counted ws places u b {u'} {b'} s h m =
       targets_more = omega (arith, t, (targets_start ws b.targets u.targets places s.targets).long);
     }
 
--- with no refusal behind the lists there was none before, and all six fit
-pub listed_fits : {ws places : List ℕ} {u : Used} {k : ℕ} {b b' : Lists} {r : Tried} → Listed ws places u k b b' r → r.number ≡ 0
-    → (k ≡ 0) × (lists_fit b (lists_after ws (take (values ws) places) b u) ≡ true)
-listed_fits {ws} {places} {u} {k} {b} {b'} {r} h z =
-    ⊎_elim
-    (λ (e : k ≡ 0). (e, fits_all _ r.number (h.number_is ∙ rw (eq-eqb k 0 e)) z))
-    (λ (e : k ≡ 0 → ⊥). absurd (e (sym (h.number_is ∙ rw (ne_eqb k 0 e)) ∙ z)))
-    (same? k 0)
+passed : (t : Bool) → ◌≡◌ {A = ℕ} 0 (pick t 0 9) → t ≡ true
+passed true e = refl
+passed false e = absurd (omega arith)
+
+-- where they are made all six fit
+pub listed_fits : {ws places : List ℕ} {u : Used} {b b' : Lists} {u' : Used} → Listed ws places u b b' (Ok u')
+    → lists_fit b (lists_after ws (take (values ws) places) b u) ≡ true
+listed_fits h = passed _ h.number_is

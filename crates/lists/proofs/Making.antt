@@ -1,17 +1,18 @@
 -- Two lists that grew in their buffers, and all six.
+use Rattle.std.specs.Prelude.{Ok, Err}
 use mathlib.Core.Path.{◌≡◌, refl, sym, ap, ◌∙◌}
 use mathlib.Core.Logic.{⊎_elim}
-use mathlib.Core.Bool.{Bool, true, false, not}
+use mathlib.Core.Bool.{Bool, true, false, not, ◌&&◌}
 use Prim.Native.Nat.{ℕ, ◌/◌, ◌≤◌, ◌<◌}
 use mathlib.Core.List.{List}
 use native.Mathlib.Omega.{arith}
-use borrow.Author.Tests.{leb-true, lt-ltb, le-ltb, le-leb, lt-leb, eq-eqb, ne_eqb}
+use borrow.Author.Tests.{leb-true, lt-ltb, le-ltb, le-leb, lt-leb}
 use lib.Dec.{leb, ltb}
 use lib.ListN.{length, take}
 use lib.Seq.{sets, take_all}
-use Rattle.base.specs.Choice.{pick}
 use Rattle.base.proofs.Numbers.{lt?}
 use Rattle.base.proofs.Buffers.{zero_from-same}
+use Rattle.refusal.specs.declared.Refusal.TheVariants.{NoRoom}
 use Rattle.input.specs.Layout.{values}
 use Rattle.input.specs.Forms.{both}
 use Rattle.input.proofs.Chain.{both-parts}
@@ -21,7 +22,7 @@ use Rattle.grow.specs.Growing.{Grown, Grows}
 use Rattle.grow.proofs.Growing.{grown_start, grown_lengths, grown_keeps}
 use Rattle.lists.specs.declared.Used.{Used}
 use Rattle.lists.specs.declared.Pair.{Pair}
-use Rattle.lists.specs.Lists.{Lists, lists, room, lists_after, lists_fit, Made, Listed}
+use Rattle.lists.specs.Lists.{Lists, lists, room, lists_after, lists_fit, Made, Kept, Listed}
 use Rattle.lists.specs.Parts.{Part, Parts, InternedParts, SwitchParts, LookupParts}
 use Rattle.lists.proofs.Kept.{Starts}
 
@@ -73,28 +74,6 @@ parts t x y s =
 
 -- ---- all six
 
--- behind a refusal nothing is done
-pub listed-not : (ws places : List ℕ) (u : Used) (k : ℕ) (b : Lists) → (k ≡ 0 → ⊥) → Listed ws places u k b b (record { number = k; used = u })
-listed-not ws places u k b h =
-    record {
-      number_is = rw (ne_eqb k 0 h);
-      made = λ z. absurd (h z);
-      kept =
-          record {
-            globals_kept = refl;
-            builtins_kept = refl;
-            switches_kept = refl;
-            targets_kept = refl;
-            lookups_kept = refl;
-            values_kept = refl;
-          };
-    }
-
--- 0 where all fit
-pub fits_all : (t : Bool) (n : ℕ) → n ≡ pick t 0 9 → n ≡ 0 → t ≡ true
-fits_all true n h z = refl
-fits_all false n h z = absurd (omega (arith, h, z))
-
 -- what stands where all six fit
 pub record Fits (b l : Lists) : Type 0 where
   pub globals : length l.globals ≤ room 2 b.globals
@@ -134,6 +113,11 @@ used_by ops x y z =
       values = z.second / 2;
     }
 
+both_three : (p q r : Bool) → ((p && q) && r) ≡ both p (both q r)
+both_three true true r = refl
+both_three true false r = refl
+both_three false q r = refl
+
 module _ (ws places : List ℕ) (u : Used) {g h s t l v g' h' s' t' l' v' : List ℕ} {x y z : Pair}
     (p : InternedParts ws u g h g' h' x) (q : SwitchParts ws places u s t s' t' y) (r : LookupParts ws u l v l' v' z) where
   six_made : Fits (lists g h s t l v) (lists_after ws (take (values ws) places) (lists g h s t l v) u)
@@ -154,20 +138,26 @@ module _ (ws places : List ℕ) (u : Used) {g h s t l v g' h' s' t' l' v' : List
   unfolding lists_fit
   six_fit = rw (p.fits_is, q.fits_is, r.fits_is) (simp both_rest)
 
-  -- the three of two lists each
-  pub listed : (k n : ℕ) → k ≡ 0 → n ≡ pick (both x.fits (both y.fits z.fits)) 0 9
-      → Listed ws places u k (lists g h s t l v) (lists g' h' s' t' l' v') (record { number = n; used = used_by u.ops x y z })
-  listed k n none is =
+  -- the three of two lists each keep what was there
+  six_kept : Kept u (lists g h s t l v) (lists g' h' s' t' l' v')
+  six_kept =
       record {
-        number_is = is ∙ rw (eq-eqb k 0 none, six_fit);
-        made = λ o. six_made (fits_parts (lists g h s t l v) _ (sym six_fit ∙ fits_all _ n is o));
-        kept =
-            record {
-              globals_kept = p.first.kept;
-              builtins_kept = p.second.kept;
-              switches_kept = q.first.kept;
-              targets_kept = q.second.kept;
-              lookups_kept = r.first.kept;
-              values_kept = r.second.kept;
-            };
+        globals_kept = p.first.kept;
+        builtins_kept = p.second.kept;
+        switches_kept = q.first.kept;
+        targets_kept = q.second.kept;
+        lookups_kept = r.first.kept;
+        values_kept = r.second.kept;
       }
+
+  fit_is : (k : Bool) → ((x.fits && y.fits) && z.fits) ≡ k → lists_fit (lists g h s t l v) (lists_after ws (take (values ws) places) (lists g h s t l v) u) ≡ k
+  fit_is k e = sym six_fit ∙ sym (both_three x.fits y.fits z.fits) ∙ e
+
+  pub listed : ((x.fits && y.fits) && z.fits) ≡ true
+      → Listed ws places u (lists g h s t l v) (lists g' h' s' t' l' v') (Ok (used_by u.ops x y z))
+  listed e =
+      record { number_is = rw (fit_is true e); made = six_made (fits_parts (lists g h s t l v) _ (fit_is true e)); kept = six_kept }
+
+  pub listed-not : ((x.fits && y.fits) && z.fits) ≡ false
+      → Listed ws places u (lists g h s t l v) (lists g' h' s' t' l' v') (Err NoRoom)
+  listed-not e = record { number_is = rw (fit_is false e); made = tt; kept = six_kept }

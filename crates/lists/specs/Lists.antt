@@ -1,16 +1,17 @@
 -- The lists that the functions of a program share: what a function adds to each behind its used length, and whether that finds room.
-use Rattle.std.specs.Prelude.{◌≡◌, Bool, ℕ, ◌*◌, ◌/◌, ◌≤◌, ◌<◌, min, List, leb, eqb, length, take}
+use Rattle.std.specs.Prelude.{◌≡◌, Bool, ℕ, ◌*◌, ◌/◌, ◌≤◌, ◌<◌, min, List, Result, IfOk, leb, length, take}
 use Rattle.std.proofs.lemmas.List.Edits.{sets}
 use Rattle.base.specs.Choice.{pick}
 use Rattle.base.specs.Limits.{most_of_a_kind}
 use Rattle.base.specs.Buffers.{zero_from}
+use Rattle.refusal.specs.declared.Refusal.{Refusal}
+use Rattle.refusal.specs.Numbers.{number_for}
 use Rattle.input.specs.Layout.{values}
 use Rattle.input.specs.Forms.{both}
 use Rattle.ready.specs.Ready.{Ready}
 use Rattle.interning.specs.Interning.{globals_after, builtins_after}
 use Rattle.tables.specs.Tables.{switch_heads_after, switch_targets_after, lookup_heads_after, lookup_values_after}
 use Rattle.lists.specs.declared.Used.{Used}
-use Rattle.lists.specs.declared.Tried.{Tried}
 
 -- How many words of a buffer are used: a global is kind and payload, a switch table three numbers, a lookup table five, a slot of one kind and
 -- payload.
@@ -118,8 +119,7 @@ pub record Kept (u : Used) (b b' : Lists) : Type 0 where
   pub lookups_kept : zero_from b'.lookups (lookup_words u) ≡ zero_from b.lookups (lookup_words u)
   pub values_kept : zero_from b'.values (value_words u) ≡ zero_from b.values (value_words u)
 
--- behind the number k of a refusal so far, 0 for none, with which nothing is done
-pub record Listed (ws places : List ℕ) (u : Used) (k : ℕ) (b b' : Lists) (r : Tried) : Type 0 where
-  pub number_is : r.number ≡ pick (eqb k 0) (pick (lists_fit b (lists_after ws (take (values ws) places) b u)) 0 9) k
-  pub made : r.number ≡ 0 → Made u b (lists_after ws (take (values ws) places) b u) r.used b'
+pub record Listed (ws places : List ℕ) (u : Used) (b b' : Lists) (r : Result Used Refusal) : Type 0 where
+  pub number_is : number_for r ≡ pick (lists_fit b (lists_after ws (take (values ws) places) b u)) 0 9
+  pub made : IfOk r (λ u'. Made u b (lists_after ws (take (values ws) places) b u) u' b')
   pub kept : Kept u b b'

@@ -3,16 +3,16 @@
 
 ghost use Rattle.std.specs.Prelude.{◌≡◌, false, not, ◌*◌, ◌/◌, ◌≤◌, min};
 ghost use Rattle.base.specs.Limits.{most_of_a_kind};
-ghost use Rattle.base.specs.Choice.{pick};
 ghost use Rattle.input.specs.Forms.{both};
 ghost use Rattle.lists.specs.Lists.{lists, ListsReady, Listed};
 ghost use Rattle.lists.specs.Parts.{InternedParts, SwitchParts, LookupParts, InternReady, SwitchReady, LookupReady};
 
 use grow::End;
+use refusal::Refusal;
 
 // How much of each buffer is used: ops and spans share one length; globals and lookup values are pairs, a switch table has three words, a lookup
 // table five.
-#[derive(Clone, Copy)]
+#[derive(Clone, Copy, PartialEq, Eq)]
 pub struct Used {
     pub ops: usize,
     pub globals: usize,
@@ -23,23 +23,15 @@ pub struct Used {
     pub values: usize,
 }
 
-// The number of the refusal, 0 for none, and the used lengths behind the function.
-#[derive(Clone, Copy)]
-pub struct Tried {
-    pub number: u8,
-    pub used: Used,
-}
-
 // The most of a kind in a program.
-const MOST: usize = 65534;
+pub const MOST_OF_A_KIND: usize = 65534;
 
 // How many words of a buffer there is room for, in records of `words` words each.
 pub fn room(words: usize, size: usize) -> usize
     requires { (1 ≤ words) × (words ≤ 5) }
     ensures { result ≡ words * min (size / words) most_of_a_kind }
 {
-    let n = size / words;
-    if MOST < n { words * MOST } else { words * n }
+    words * (size / words).min(MOST_OF_A_KIND)
 }
 
 // A list that ends so far in its buffer.
@@ -58,7 +50,7 @@ fn end_at(words: usize, at: usize, size: usize) -> End
 fn neither(first: bool, second: bool) -> bool
     ensures { result ≡ both (not first) (not second) }
 {
-    if first { false } else { !second }
+    !first && !second
 }
 
 // The ends of two lists, and whether all of both found room.
@@ -138,22 +130,8 @@ fn lookup_tables(ws: &[u32], lookups: &mut [u64], values: &mut [u64], u: Used) -
     }
 }
 
-// The number of the refusal of lists that find no room.
-fn number_of(first: bool, second: bool, third: bool) -> u8
-    ensures { result ≡ pick (both first (both second third)) 0 9 }
-{
-    if !first {
-        return 9;
-    }
-    if !second {
-        return 9;
-    }
-    if third { 0 } else { 9 }
-}
-
-// All six lists with what the function adds to them, unless a number says that it is refused.
+// All six lists with what the function adds to them, and the used lengths behind them.
 pub fn make_lists(
-    k: u8,
     ws: &[u32],
     places: &[u32],
     globals: &mut [u64],
@@ -163,17 +141,17 @@ pub fn make_lists(
     lookups: &mut [u64],
     values: &mut [u64],
     u: Used,
-) -> Tried
-    requires { k ≡ 0 → ListsReady ws.now places.now u (lists globals.old builtins.old switches.old targets.old lookups.old values.old) }
-    ensures { Listed ws.now places.now u k (lists globals.old builtins.old switches.old targets.old lookups.old values.old) (lists globals.new builtins.new switches.new targets.new lookups.new values.new) result }
+) -> Result<Used, Refusal>
+    requires { ListsReady ws.now places.now u (lists globals.old builtins.old switches.old targets.old lookups.old values.old) }
+    ensures { Listed ws.now places.now u (lists globals.old builtins.old switches.old targets.old lookups.old values.old) (lists globals.new builtins.new switches.new targets.new lookups.new values.new) result }
 {
-    if k != 0 {
-        return Tried { number: k, used: u };
-    }
     let a = intern(ws, globals, builtins, u);
     let b = switch_tables(ws, places, switches, targets, u);
     let c = lookup_tables(ws, lookups, values, u);
-    let used = Used {
+    if !(a.fits & b.fits & c.fits) {
+        return Err(Refusal::NoRoom);
+    }
+    Ok(Used {
         ops: u.ops,
         globals: a.first / 2,
         builtins: a.second,
@@ -181,9 +159,5 @@ pub fn make_lists(
         targets: b.second,
         lookups: c.first / 5,
         values: c.second / 2,
-    };
-    Tried {
-        number: number_of(a.fits, b.fits, c.fits),
-        used,
-    }
+    })
 }

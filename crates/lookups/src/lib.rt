@@ -8,13 +8,12 @@ ghost use Rattle.input.specs.Layout.{blocks};
 ghost use Rattle.input.specs.Records.{is_live, first_instr, instr_count, instr_kind, instr_x, instr_y, lookup, constant_kind, payload_of};
 ghost use Rattle.fit.specs.Keys.{keys_at, smallest};
 ghost use Rattle.ready.specs.Ready.{Ready, KeysReady};
-ghost use Rattle.tables.specs.Tables.{slot_count, entry_keys, default_of, lookup_head, filled, store_entries, lookup_slots, lookup_heads, lookup_values, slots_in, blocks_heads, blocks_values, lookup_heads_after, lookup_values_after};
+ghost use Rattle.lookups.specs.Part.{instr_by, instrs_by, blocks_by};
+ghost use Rattle.tables.specs.Tables.{slot_count, entry_keys, default_of, filled, store_entries, lookup_slots, slots_in, lookup_heads_after, lookup_values_after};
 
 use grow::End;
+use input::kinds;
 use tables::{Range, Slots};
-
-// The kind of instruction that has a table.
-const LOOKUP: u32 = 11;
 
 // The least rank and the slots of a Lookup's entries.
 fn entry_range(ws: &[u32], i: u32) -> Range
@@ -43,8 +42,8 @@ fn lookup_head(ws: &[u32], heads: &mut [u64], e: End, k: Range, start: usize, i:
     let kind = fit::constant_at(ws, c, 0);
     let payload = fit::payload_at(ws, c);
     let f = tables::put_head(heads, e, k, start);
-    let g = grow::push64(heads, f, kind as u64);
-    grow::push64(heads, g, payload)
+    let g = f.push(heads, kind as u64);
+    g.push(heads, payload)
 }
 
 // So many slots with one constant.
@@ -52,11 +51,9 @@ fn put_filled(values: &mut [u64], e: End, kind: u32, payload: u64, n: usize) -> 
     ensures { Grows (λ l. l ++ filled kind payload n) values.old e values.new result }
 {
     let mut f = e;
-    let mut left = n;
-    while 0 < left {
-        let g = grow::push64(values, f, kind as u64);
-        f = grow::push64(values, g, payload);
-        left -= 1;
+    for _ in 0..n {
+        let g = f.push(values, kind as u64);
+        f = g.push(values, payload);
     }
     f
 }
@@ -78,8 +75,8 @@ fn store_entry(ws: &[u32], values: &mut [u64], e: End, i: usize, c: usize)
 {
     let kind = fit::constant_at(ws, c, 0);
     let payload = fit::payload_at(ws, c);
-    grow::store64(values, e, 2 * i, kind as u64);
-    grow::store64(values, e, 2 * i + 1, payload);
+    e.store(values, 2 * i, kind as u64);
+    e.store(values, 2 * i + 1, payload);
 }
 
 // The values of n entries, the first of them with the key c.
@@ -88,12 +85,10 @@ fn store_entries(ws: &[u32], values: &mut [u64], e: End, low: u64, start: usize,
     requires keys_ready { KeysReady ws.now 2 c n }
     ensures { Grows (store_entries ws.now (keys_at 2 c n) start c n) values.old e values.new e }
 {
-    let mut j = 0;
-    while j < n {
-        let key = (c as usize) + 2 * (j as usize);
+    for j in 0..n {
+        let key = c as usize + 2 * j as usize;
         let slot = tables::slot_for(ws, key, low);
         store_entry(ws, values, e, start + slot, key + 1);
-        j += 1;
     }
 }
 
@@ -110,97 +105,94 @@ fn lookup_slots(ws: &[u32], values: &mut [u64], e: End, k: Range, start: usize, 
     f
 }
 
-// The head of instruction i's table, or its slots, if it is a Lookup.
-fn one_lookup(ws: &[u32], list: &mut [u64], t: Slots, heads: bool, i: u32) -> Slots
+// What a pass puts of each table: its head, or its slots.
+#[derive(Clone, Copy)]
+enum Part {
+    Heads,
+    Values,
+}
+
+// That of instruction i's table, if it is a Lookup.
+fn one_lookup(ws: &[u32], list: &mut [u64], t: Slots, part: Part, i: u32) -> Slots
     requires { (t.start < 2 ^ 60) × (instr_kind ws.now i ≡ lookup → KeysReady ws.now 2 (instr_x ws.now i) (instr_y ws.now i)) }
     ensures start_value { (result.start ≡ t.start + pick (eqb (instr_kind ws.now i) lookup) (slot_count ws.now (entry_keys ws.now i)) 0) × (result.start ≤ t.start + 4096) }
-    ensures grows { Grows (λ l. pick (eqb (instr_kind ws.now i) lookup) (pick heads (l ++ lookup_head ws.now i t.start) (lookup_slots ws.now t.start i l)) l) list.old t.end list.new result.end }
+    ensures grows { Grows (λ l. pick (eqb (instr_kind ws.now i) lookup) (instr_by part ws.now t.start i l) l) list.old t.end list.new result.end }
 {
-    if input::instr_field(ws, i, 0) != LOOKUP {
+    if input::instr_field(ws, i, 0) != kinds::instr::LOOKUP {
         return t;
     }
     let k = entry_range(ws, i);
-    let e = t.end;
-    let start = t.start;
-    let next = start + k.slots;
-    if heads {
-        let f = lookup_head(ws, list, e, k, start, i);
-        return Slots {
-            end: f,
-            start: next,
-        };
-    }
-    let f = lookup_slots(ws, list, e, k, start, i);
+    let end = match part {
+        Part::Heads => lookup_head(ws, list, t.end, k, t.start, i),
+        Part::Values => lookup_slots(ws, list, t.end, k, t.start, i),
+    };
     Slots {
-        end: f,
-        start: next,
+        end,
+        start: t.start + k.slots,
     }
 }
 
 // Those of n instructions from the first on.
-fn some_lookups(ws: &[u32], list: &mut [u64], t: Slots, heads: bool, first: u32, n: u32) -> Slots
+fn some_lookups(ws: &[u32], list: &mut [u64], t: Slots, part: Part, first: u32, n: u32) -> Slots
     requires n_bound { (first + n < 4294967296) × (t.start + 4096 * n < 2 ^ 60) }
     requires by_index { (i : ℕ) → first ≤ i → i < first + n → instr_kind ws.now i ≡ lookup → KeysReady ws.now 2 (instr_x ws.now i) (instr_y ws.now i) }
     ensures start_value { (result.start ≡ t.start + slots_in ws.now first n) × (result.start ≤ t.start + 4096 * n) }
-    ensures grows { Grows (pick heads lookup_heads lookup_values ws.now t.start first n) list.old t.end list.new result.end }
+    ensures grows { Grows (instrs_by part ws.now t.start first n) list.old t.end list.new result.end }
 {
     let mut u = t;
-    let mut j = 0;
-    while j < n {
-        u = one_lookup(ws, list, u, heads, first + j);
-        j += 1;
+    for i in first..first + n {
+        u = one_lookup(ws, list, u, part, i);
     }
     u
 }
 
 // Those of block b, none of a tombstone.
-fn block_lookups(ws: &[u32], list: &mut [u64], t: Slots, heads: bool, b: u32) -> Slots
+fn block_lookups(ws: &[u32], list: &mut [u64], t: Slots, part: Part, b: u32) -> Slots
     requires b_bound { (b < blocks ws.now) × (t.start < 2 ^ 59) }
     requires ready { Ready ws.now }
     ensures start_value { (result.start ≡ t.start + pick (is_live ws.now b) (slots_in ws.now (first_instr ws.now b) (instr_count ws.now b)) 0) × (result.start ≤ t.start + 2 ^ 44) }
-    ensures grows { Grows (λ l. pick (is_live ws.now b) (pick heads lookup_heads lookup_values ws.now t.start (first_instr ws.now b) (instr_count ws.now b) l) l) list.old t.end list.new result.end }
+    ensures grows { Grows (λ l. pick (is_live ws.now b) (instrs_by part ws.now t.start (first_instr ws.now b) (instr_count ws.now b) l) l) list.old t.end list.new result.end }
 {
     if input::block_field(ws, b, 1) != 0 {
         return t;
     }
     let first = input::block_field(ws, b, 4);
     let n = input::block_field(ws, b, 5);
-    some_lookups(ws, list, t, heads, first, n)
+    some_lookups(ws, list, t, part, first, n)
 }
 
 // Those of all blocks.
-fn lookup_pass(ws: &[u32], list: &mut [u64], e: End, used: usize, heads: bool) -> End
+fn lookup_pass(ws: &[u32], list: &mut [u64], e: End, used: usize, part: Part) -> End
     requires used_bound { used < 4294967296 }
     requires ready { Ready ws.now }
-    ensures { Grows (pick heads blocks_heads blocks_values ws.now used 0 (blocks ws.now)) list.old e list.new result }
+    ensures { Grows (blocks_by part ws.now used 0 (blocks ws.now)) list.old e list.new result }
 {
-    let end = input::head_field(ws, 4);
     let mut t = Slots {
         end: e,
         start: used,
     };
-    let mut b = 0;
-    while b < end {
-        t = block_lookups(ws, list, t, heads, b);
-        b += 1;
+    for b in 0..input::head_field(ws, 4) {
+        t = block_lookups(ws, list, t, part, b);
     }
     t.end
 }
 
 // The heads of a function's lookup tables.
+#[tactic(auto, unfolding(tables::specs::Tables::lookup_heads_after))]
 pub fn put_lookup_heads(ws: &[u32], heads: &mut [u64], e: End, used: usize) -> End
     requires used_bound { used < 4294967296 }
     requires ready { Ready ws.now }
     ensures { Grows (lookup_heads_after ws.now used) heads.old e heads.new result }
 {
-    lookup_pass(ws, heads, e, used, true)
+    lookup_pass(ws, heads, e, used, Part::Heads)
 }
 
 // The slots of a function's lookup tables.
+#[tactic(auto, unfolding(tables::specs::Tables::lookup_values_after))]
 pub fn put_lookup_values(ws: &[u32], values: &mut [u64], e: End, used: usize) -> End
     requires used_bound { used < 4294967296 }
     requires ready { Ready ws.now }
     ensures { Grows (lookup_values_after ws.now used) values.old e values.new result }
 {
-    lookup_pass(ws, values, e, used, false)
+    lookup_pass(ws, values, e, used, Part::Values)
 }

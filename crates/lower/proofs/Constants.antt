@@ -1,7 +1,7 @@
 -- What LoadConst does, by its constant.
 use mathlib.Core.Path.{◌≡◌, refl, sym, ◌∙◌}
 use Prim.Native.Nat.{ℕ, zero, suc, ◌%◌, ◌^◌, ◌<◌}
-use mathlib.Core.Bool.{Bool, true, false, not, true≢false}
+use mathlib.Core.Bool.{Bool, true, false, true≢false}
 use mathlib.Core.List.{List}
 use native.Mathlib.Omega.{arith}
 use borrow.Author.Tests.{lt-ltb, ne_eqb}
@@ -16,11 +16,6 @@ use Rattle.op.specs.Ops.{load_i, load_g}
 use Rattle.input.specs.Records.{undefined_const, true_const, int_const}
 use Rattle.lower.specs.Operands.{dest_reg, stored}
 use Rattle.lower.specs.Instructions.{is_global, const_ops, lower_const}
-
--- a test turned round
-pub not-pick : (b : Bool) → not b ≡ pick b false true
-not-pick true = refl
-not-pick false = refl
 
 -- a kind above Int's is a global
 kind_global : (kind payload : ℕ) → 3 < kind → is_global kind payload ≡ true

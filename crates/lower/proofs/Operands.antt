@@ -1,30 +1,17 @@
 -- What bringing an operand and storing a destination do, by the place, and how an instruction is made of them.
 use mathlib.Core.Path.{◌≡◌, ap}
 use Prim.Native.Nat.{ℕ, ◌-◌, ◌≤◌, ◌<◌}
-use mathlib.Core.Bool.{false}
 use mathlib.Core.List.{List}
-use borrow.Author.Tests.{lt-ltb, le-ltb, ne_eqb}
-use lib.Dec.{eqb}
+use borrow.Author.Tests.{lt-ltb, le-ltb}
 use Rattle.base.specs.declared.Pen.{Pen}
 use Rattle.base.specs.Emission.{Out, emit}
 use Rattle.base.specs.Lent.{Lowers}
 use Rattle.base.proofs.Pens.{lowers_none, then, renamed}
-use Rattle.place.specs.Registers.{scratch_of, tmp_of}
+use Rattle.place.specs.Registers.{tmp_of}
 use Rattle.place.specs.Places.{slots_from}
-use Rattle.op.specs.declared.Op.{Op}
-use Rattle.op.specs.Words.{word, parts}
+use Rattle.op.specs.Words.{word}
 use Rattle.op.specs.Ops.{load_slot, store_slot}
-use Rattle.lower.specs.Operands.{loads_scratch, spare, operand_reg, fetched, operand, dest_reg, stored, into}
-
--- the op before loads a slot, or does not
-pub loads_a_slot : (n last : ℕ) {o : Op} {scratch : ℕ} → o ≡ parts last → o.code ≡ 25 → scratch ≡ scratch_of n
-    → eqb o.a scratch ≡ loads_scratch n last
-unfolding loads_scratch
-loads_a_slot n last e f s = rw (← e, f, s)
-
-pub loads_no_slot : (n last : ℕ) {o : Op} → o ≡ parts last → (o.code ≡ 25 → ⊥) → false ≡ loads_scratch n last
-unfolding loads_scratch
-loads_no_slot n last {o} e f = rw (← e, ne_eqb o.code 25 f)
+use Rattle.lower.specs.Operands.{spare, operand_reg, fetched, operand, dest_reg, stored, into}
 
 -- A rule that looks at the op before it may be given the pen's.
 pub by_last : (rule : ℕ → Out → Out) {o b l o' b' l' : List ℕ} {p p' : Pen} → Lowers (rule p.last) o b l p o' b' l' p'

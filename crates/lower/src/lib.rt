@@ -17,23 +17,20 @@ use base::Pen;
 pub fn place_at(map: &[u32], v: u32) -> u32
     ensures { result ≡ place_at map.now v }
 {
-    let w = base::get32(map, v as usize);
-    if w == 0 { 0 } else { w - 1 }
+    base::get_or(map, v as usize, 0).saturating_sub(1)
 }
 
 // Does an op load SCRATCH from a slot?
+#[tactic(auto, unfolding(crate::specs::Operands::loads_scratch))]
 pub fn loads_scratch(last: u64) -> bool
     ensures { result ≡ loads_scratch registers last }
 {
     let o = op::unpack(last);
-    if o.code == 25 {
-        o.a == place::scratch()
-    } else {
-        false
-    }
+    o.code == 25 && o.a == place::scratch()
 }
 
 // The register that a slot operand is loaded into.
+#[tactic(auto, unfolding(crate::specs::Operands::spare))]
 pub fn spare_reg(last: u64) -> u8
     ensures { result ≡ spare registers last }
 {
@@ -45,6 +42,7 @@ pub fn spare_reg(last: u64) -> u8
 }
 
 // The register that an operand is read from, where `last` is the op before.
+#[tactic(auto, unfolding(crate::specs::Operands::operand_reg))]
 pub fn operand_reg(place: u32, last: u64) -> u8
     ensures { result ≡ operand_reg registers place last }
 {
@@ -56,6 +54,7 @@ pub fn operand_reg(place: u32, last: u64) -> u8
 }
 
 // The register that an op computes a destination in.
+#[tactic(auto, unfolding(crate::specs::Operands::dest_reg))]
 pub fn dest_reg(place: u32) -> u8
     ensures { result ≡ dest_reg registers place }
 {
@@ -154,16 +153,11 @@ pub fn put_bin_imm(
 fn cast_word(to: u32, from: u32, d: u8, s: u8) -> u64
     ensures { result ≡ word (cast_op to from d s) }
 {
-    if from == 0 {
-        if to == 1 {
-            op::cast_to_double(d, s)
-        } else {
-            op::cast_to_bool(d, s)
-        }
-    } else if from == 1 {
-        op::cast_to_int(d, s)
-    } else {
-        op::mov(d, s)
+    match (from, to) {
+        (0, 1) => op::cast_to_double(d, s),
+        (0, _) => op::cast_to_bool(d, s),
+        (1, _) => op::cast_to_int(d, s),
+        _ => op::mov(d, s),
     }
 }
 
@@ -307,14 +301,11 @@ pub fn put_assert(ops: &mut [u64], spans: &mut [u32], p: Pen, dst: u32, cond: u3
 fn small_int(payload: u64) -> bool
     ensures { result ≡ small_int payload }
 {
-    if payload < 2147483647 {
-        true
-    } else {
-        18446744071562067968 < payload
-    }
+    payload < 2147483647 || 18446744071562067968 < payload
 }
 
 // Is the constant one that LoadG loads?
+#[tactic(auto, unfolding(crate::specs::Instructions::is_global))]
 pub fn is_global(kind: u32, payload: u64) -> bool
     ensures { result ≡ is_global kind payload }
 {
@@ -329,12 +320,10 @@ pub fn is_global(kind: u32, payload: u64) -> bool
 fn loaded(kind: u32, payload: u64) -> u32
     ensures { result ≡ pick (eqb kind int_const) (payload % 2 ^ 32) (pick (eqb kind true_const) 1 0) }
 {
-    if kind == 3 {
-        (payload % 4294967296) as u32
-    } else if kind == 2 {
-        1
-    } else {
-        0
+    match kind {
+        3 => (payload % 4294967296) as u32,
+        2 => 1,
+        _ => 0,
     }
 }
 

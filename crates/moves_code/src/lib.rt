@@ -2,7 +2,6 @@
 #![tactic(auto)]
 
 ghost use Rattle.std.specs.Prelude.{◌≡◌, List, ℕ, ◌+◌, ◌≤◌, ◌<◌, map, length, take};
-ghost use Rattle.base.specs.Lists.{among};
 ghost use Rattle.base.specs.Emission.{emit_all};
 ghost use Rattle.base.specs.Lent.{Lowers};
 ghost use Rattle.place.specs.Registers.{registers, tmp_of};
@@ -11,47 +10,23 @@ ghost use Rattle.moves.specs.Moves.{move_ops, first_ready, park, move_words};
 
 use base::Pen;
 
-// Is d one of the first n sources?
-fn is_source(src: &[u32], n: usize, d: u32) -> bool
-    requires { n ≤ length src.now }
-    ensures { result ≡ among d (take n src.now) }
+// The first move whose destination is no remaining source; how many there are where there is none.
+fn first_ready(src: &[u32], dst: &[u32]) -> usize
+    ensures { result ≡ first_ready src.now dst.now }
 {
-    let mut source = 0;
-    while source < n {
-        if src[source] == d {
-            return true;
-        }
-        source += 1;
-    }
-    false
+    dst.iter()
+        .position(|d| !src.contains(d))
+        .unwrap_or(dst.len())
 }
 
-// The first of n moves whose destination is no remaining source; n where there is none.
-fn first_ready(src: &[u32], dst: &[u32], n: usize) -> usize
-    requires { (n ≤ length src.now) × (n ≤ length dst.now) }
-    ensures { result ≡ first_ready (take n src.now) (take n dst.now) }
+// Each source that is x is read at sc instead.
+fn park_all(src: &mut [u32], x: u32, sc: u32)
+    ensures { src.new ≡ park x sc src.old }
 {
-    let mut i = 0;
-    while i < n {
-        if !is_source(src, n, dst[i]) {
-            return i;
+    for s in src {
+        if *s == x {
+            *s = sc;
         }
-        i += 1;
-    }
-    i
-}
-
-// Each of the first n sources that is x is read at sc instead.
-fn park_all(src: &mut [u32], n: usize, x: u32, sc: u32)
-    requires { n ≤ length src.old }
-    ensures { take n src.new ≡ park x sc (take n src.old) }
-{
-    let mut reader = 0;
-    while reader < n {
-        if src[reader] == x {
-            src[reader] = sc;
-        }
-        reader += 1;
     }
 }
 
@@ -65,14 +40,12 @@ fn put_move(ops: &mut [u64], spans: &mut [u32], p: Pen, s: u32, d: u32) -> Pen
         } else {
             base::put(ops, spans, p, op::store_slot(d - 256, s as u8))
         }
+    } else if d < 256 {
+        base::put(ops, spans, p, op::load_slot(d as u8, s - 256))
     } else {
-        if d < 256 {
-            base::put(ops, spans, p, op::load_slot(d as u8, s - 256))
-        } else {
-            let tmp = place::tmp();
-            let q = base::put(ops, spans, p, op::load_slot(tmp, s - 256));
-            base::put(ops, spans, q, op::store_slot(d - 256, tmp))
-        }
+        let tmp = place::tmp();
+        let q = base::put(ops, spans, p, op::load_slot(tmp, s - 256));
+        base::put(ops, spans, q, op::store_slot(d - 256, tmp))
     }
 }
 
@@ -91,13 +64,11 @@ pub fn put_moves(
     let scratch = place::scratch() as u32;
     let mut q = p;
     let mut left = n;
-    let mut fuel = n + n;
-    while 0 < fuel {
-        fuel -= 1;
+    for _turn in 0..n + n {
         if left == 0 {
             return q;
         }
-        let i = first_ready(src, dst, left);
+        let i = first_ready(&src[..left], &dst[..left]);
         if i < left {
             q = put_move(ops, spans, q, src[i], dst[i]);
             left -= 1;
@@ -106,7 +77,7 @@ pub fn put_moves(
         } else {
             let parked = src[0];
             q = put_move(ops, spans, q, parked, scratch);
-            park_all(src, left, parked, scratch);
+            park_all(&mut src[..left], parked, scratch);
         }
     }
     q

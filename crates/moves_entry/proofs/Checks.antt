@@ -1,35 +1,24 @@
--- What one turn of each check passes: the one at i is judged, and what is behind it is left.
-use mathlib.Core.Path.{◌≡◌}
-use Prim.Native.Nat.{ℕ, ◌+◌, ◌≤◌, ◌<◌}
-use mathlib.Core.List.{List}
-use mathlib.Core.Bool.{true, false}
-use lib.ListN.{length, get_or, take, drop}
-use lib.Dec.{eqb}
-use Rattle.base.specs.Lists.{among, distinct}
-use Rattle.base.proofs.Lists.{peel}
+-- The checks of places in the words of the library.
+use lib.Seq.{take_all}
+use Rattle.std.proofs.Common.{take, ◌-◌, length-drop, arith, ◌≡◌, ℕ, ◌+◌, ◌<◌, List, [], ◌∷◌, Bool, true, false, ◌&&◌, eqb, length, get_or, drop, refl, add-one, drop-cons}
+use Rattle.std.specs.List.{list_any, list_all}
+use Rattle.base.specs.Choice.{pick}
+use Rattle.base.specs.Lists.{distinct}
 use Rattle.moves.specs.AtOnce.{place_ok, all_ok}
+use Rattle.moves_code.proofs.Searching.{any_is_among}
 
-module _ (n i : ℕ) (l : List ℕ) (h : i < n) (k : n ≤ length l) where
-  -- a place that no move may name ends the check
-  pub ok_stops : (r s : ℕ) → place_ok r s (get_or l i 0) ≡ false → all_ok r s (drop i (take n l)) ≡ false
-  ok_stops r s e = rw (peel n i l h k, e)
+pub all_is : (n slots : ℕ) (ps : List ℕ) → list_all (place_ok n slots) ps ≡ all_ok n slots ps
+all_is n slots [] = refl
+all_is n slots (p ∷ ps) = rw (all_is n slots ps) (go (place_ok n slots p) (all_ok n slots ps))
+  where
+    go : (b c : Bool) → (b && c) ≡ pick b c false
+    go true c = refl
+    go false c = refl
 
-  -- another is passed
-  pub ok_goes : (r s : ℕ) → place_ok r s (get_or l i 0) ≡ true → all_ok r s (drop i (take n l)) ≡ all_ok r s (drop (i + 1) (take n l))
-  ok_goes r s e = rw (peel n i l h k, e)
-
-  -- the number that is looked for ends the search
-  pub among_stops : (x : ℕ) → eqb x (get_or l i 0) ≡ true → among x (drop i (take n l)) ≡ true
-  among_stops x e = rw (peel n i l h k, e)
-
-  -- another is passed
-  pub among_goes : (x : ℕ) → eqb x (get_or l i 0) ≡ false → among x (drop i (take n l)) ≡ among x (drop (i + 1) (take n l))
-  among_goes x e = rw (peel n i l h k, e)
-
-  -- one that stands again behind itself ends the check
-  pub distinct_stops : among (get_or l i 0) (drop (i + 1) (take n l)) ≡ true → distinct (drop i (take n l)) ≡ false
-  distinct_stops e = rw (peel n i l h k, e)
-
-  -- another is passed
-  pub distinct_goes : among (get_or l i 0) (drop (i + 1) (take n l)) ≡ false → distinct (drop i (take n l)) ≡ distinct (drop (i + 1) (take n l))
-  distinct_goes e = rw (peel n i l h k, e)
+-- a turn judges the one at i, and what is behind it is left
+pub distinct_turn : (ps : List ℕ) (i : ℕ) (b : Bool) → i < length ps
+    → b ≡ list_any (λ y. eqb y (get_or ps i 0)) (take (length ps - (i + 1)) (drop (i + 1) ps))
+    → distinct (drop i ps) ≡ pick b false (distinct (drop (i + 1) ps))
+distinct_turn ps i b h e =
+    let r : take (length ps - (i + 1)) (drop (i + 1) ps) ≡ drop (i + 1) ps = take_all _ _ (simp length-drop (omega arith)) in
+    rw (drop-cons ps i 0 h, e, r, any_is_among (get_or ps i 0) (drop (i + 1) ps), add-one i)

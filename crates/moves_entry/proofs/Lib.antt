@@ -1,6 +1,5 @@
 pub mod Checks
 pub mod Gathering
 pub mod Outcomes
-pub mod Owned
 pub mod Words
 pub mod Answers

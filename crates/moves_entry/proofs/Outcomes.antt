@@ -1,6 +1,7 @@
 -- What comes back, by the tests that led there.
 use mathlib.Core.Path.{◌≡◌, refl, sym}
 use mathlib.Core.Logic.{⊎_elim}
+use Rattle.std.proofs.Common.{Ok, Err}
 use mathlib.Core.Bool.{Bool, true, false, true≢false}
 use mathlib.Core.List.{List}
 use Prim.Native.Nat.{ℕ, ◌+◌, ◌≤◌, ◌<◌, min}
@@ -15,9 +16,9 @@ use Rattle.base.proofs.Numbers.{lt?}
 use Rattle.base.proofs.Lists.{sets-front}
 use Rattle.moves.specs.Moves.{move_words}
 use Rattle.moves.specs.AtOnce.{moves_ok}
+use Rattle.refusal.specs.declared.Refusal.TheVariants.{TooMany, NoRoom, BadMove}
 use Rattle.moves_entry.specs.declared.Move.{Move}
 use Rattle.moves_entry.specs.declared.Columns.{Columns}
-use Rattle.moves_entry.specs.declared.Emitted.TheVariants.{Done, TooMany, NoRoom, BadMove}
 use Rattle.moves_entry.specs.Entry.{sources_of, destinations_of, move_slots, Outcome, outcome, few_enough, outcome_of}
 use Rattle.moves_entry.specs.Gathering.{columns_of, sources_in, destinations_in, Fresh, appended, columns_outcome}
 use Rattle.moves_entry.proofs.Gathering.{length_sources, length_destinations}
@@ -49,7 +50,7 @@ few count used ops spans h =
 
 module _ (words : List ℕ) (used span : ℕ) (ops spans : List ℕ) where
   -- a buffer is too short
-  pub no_room : (n : ℕ) → n ≡ length words → min most_of_a_kind (min (length ops) (length spans)) < used + n → outcome NoRoom ops spans ≡ appended words used span ops spans
+  pub no_room : (n : ℕ) → n ≡ length words → min most_of_a_kind (min (length ops) (length spans)) < used + n → outcome (Err NoRoom) ops spans ≡ appended words used span ops spans
   unfolding appended
   no_room n e h =
       let l : min most_of_a_kind (min (length ops) (length spans)) < used + length words = omega arith in
@@ -57,7 +58,7 @@ module _ (words : List ℕ) (used span : ℕ) (ops spans : List ℕ) where
 
   -- the words are copied
   pub all_copied : (n : ℕ) (front marks ops' spans' : List ℕ) → Fresh words span front marks n → used + n ≤ most_of_a_kind → used + n ≤ length ops → used + n ≤ length spans
-      → ops' ≡ sets ops used (take n front) → spans' ≡ sets spans used (take n marks) → outcome (Done (used + n)) ops' spans' ≡ appended words used span ops spans
+      → ops' ≡ sets ops used (take n front) → spans' ≡ sets spans used (take n marks) → outcome (Ok (used + n)) ops' spans' ≡ appended words used span ops spans
   unfolding appended
   all_copied n front marks ops' spans' f m h k e g =
       let l : used + length words ≤ min most_of_a_kind (min (length ops) (length spans)) = omega (arith, f.count) in
@@ -65,13 +66,13 @@ module _ (words : List ℕ) (used span : ℕ) (ops spans : List ℕ) where
 
 module _ (n : ℕ) (c : Columns) (used span : ℕ) (ops spans : List ℕ) where
   -- the first test fails
-  pub too_many : few_enough c.count used ops spans ≡ false → outcome TooMany ops spans ≡ columns_outcome n c used span ops spans
+  pub too_many : few_enough c.count used ops spans ≡ false → outcome (Err TooMany) ops spans ≡ columns_outcome n c used span ops spans
   unfolding columns_outcome
   too_many e = rw e
 
   module _ (e : few_enough c.count used ops spans ≡ true) where
     -- the second test fails
-    pub bad_move : moves_ok n move_slots (sources_in c) (destinations_in c) ≡ false → outcome BadMove ops spans ≡ columns_outcome n c used span ops spans
+    pub bad_move : moves_ok n move_slots (sources_in c) (destinations_in c) ≡ false → outcome (Err BadMove) ops spans ≡ columns_outcome n c used span ops spans
     unfolding columns_outcome
     bad_move f = rw (e, f)
 

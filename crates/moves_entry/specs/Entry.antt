@@ -1,28 +1,24 @@
 -- The outer entry: what it answers, and what the lent buffers hold afterwards.
-use Rattle.std.specs.Prelude.{ℕ, ◌+◌, min, List, [], ◌∷◌, Bool, false, length, replicate, leb}
+use Rattle.std.specs.Prelude.{ℕ, Result, Ok, Err, ◌+◌, min, List, [], ◌∷◌, Bool, false, length, replicate, leb}
 use Rattle.std.proofs.lemmas.List.Edits.{sets}
 use Rattle.base.specs.Choice.{pick}
 use Rattle.base.specs.Limits.{most_moves, most_of_a_kind}
 use Rattle.moves.specs.Moves.{move_words}
 use Rattle.moves.specs.AtOnce.{moves_ok}
 use Rattle.place.specs.Places.{number_of}
+use Rattle.refusal.specs.declared.Refusal.{Refusal}
+use Rattle.refusal.specs.declared.Refusal.TheVariants.{TooMany, NoRoom, BadMove}
+use Rattle.refusal.specs.Numbers.{number_for}
 use Rattle.moves_entry.specs.declared.Move.{Move}
-use Rattle.moves_entry.specs.declared.Emitted.{Emitted}
-use Rattle.moves_entry.specs.declared.Emitted.TheVariants.{Done, TooMany, NoRoom, BadMove}
 
 -- document 01's number of each answer
-abbrev pub answer_number : Emitted → ℕ
-answer_number (Done used) = 0
-answer_number TooMany = 2
-answer_number NoRoom = 9
-answer_number BadMove = 10
+abbrev pub answer_number : Result ℕ Refusal → ℕ
+answer_number answer = number_for answer
 
 -- and the new used length
-abbrev pub used_for : Emitted → ℕ
-used_for (Done used) = used
-used_for TooMany = 0
-used_for NoRoom = 0
-used_for BadMove = 0
+abbrev pub used_for : Result ℕ Refusal → ℕ
+used_for (Ok used) = used
+used_for (Err why) = 0
 
 -- a list of moves as two columns of place numbers
 unfoldable pub sources_of : List Move → List ℕ
@@ -44,17 +40,17 @@ pub record Outcome : Type 0 where
   pub ops : List ℕ
   pub spans : List ℕ
 
-abbrev pub outcome : Emitted → List ℕ → List ℕ → Outcome
+abbrev pub outcome : Result ℕ Refusal → List ℕ → List ℕ → Outcome
 outcome answer ops spans = record { number = answer_number answer; used = used_for answer; ops = ops; spans = spans }
 
 -- a refused call changes nothing
-abbrev pub refused : Emitted → List ℕ → List ℕ → Outcome
-refused why ops spans = outcome why ops spans
+abbrev pub refused : Refusal → List ℕ → List ℕ → Outcome
+refused why ops spans = outcome (Err why) ops spans
 
 -- the words stand behind the used length, each with the span, and what lies past them is untouched
 abbrev pub written : List ℕ → ℕ → ℕ → List ℕ → List ℕ → Outcome
 written words used span ops spans =
-    outcome (Done (used + length words)) (sets ops used words) (sets spans used (replicate (length words) span))
+    outcome (Ok (used + length words)) (sets ops used words) (sets spans used (replicate (length words) span))
 
 -- no more than 190 moves, and the used length within both buffers and what a program may have
 abbrev pub few_enough : ℕ → ℕ → List ℕ → List ℕ → Bool

@@ -4,11 +4,11 @@ use Rattle.std.proofs.lemmas.List.Edits.{sets}
 use Rattle.base.specs.Choice.{pick}
 use Rattle.base.specs.Limits.{most_moves}
 use Rattle.place.specs.Places.{number_of}
+use Rattle.refusal.specs.declared.Refusal.TheVariants.{TooMany, NoRoom, BadMove}
 use Rattle.moves.specs.Moves.{move_words}
 use Rattle.moves.specs.AtOnce.{moves_ok}
 use Rattle.moves_entry.specs.declared.Move.{Move}
 use Rattle.moves_entry.specs.declared.Columns.{Columns}
-use Rattle.moves_entry.specs.declared.Emitted.TheVariants.{TooMany, NoRoom, BadMove}
 use Rattle.moves_entry.specs.Entry.{sources_of, destinations_of, move_slots, Outcome, refused, written, few_enough, room_for}
 
 -- columns for so many moves, of which they hold none yet

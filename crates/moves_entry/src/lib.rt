@@ -1,10 +1,10 @@
 // The outer entry of parallel moves, over a slice of pairs: a thin layer over the number columns.
 #![tactic(auto)]
 
-ghost use Rattle.std.specs.Prelude.{◌≡◌, Bool, ◌<◌, ◌≤◌, min, length, take, drop, leb};
+ghost use Rattle.std.specs.Prelude.{◌≡◌, Bool, ◌<◌, ◌≤◌, length, leb};
 ghost use Rattle.base.specs.Choice.{pick};
 ghost use Rattle.base.specs.Limits.{most_moves, most_of_a_kind};
-ghost use Rattle.base.specs.Lists.{among, distinct};
+ghost use Rattle.base.specs.Lists.{distinct};
 ghost use Rattle.place.specs.Registers.{registers};
 ghost use Rattle.moves.specs.Moves.{move_words};
 ghost use Rattle.moves.specs.AtOnce.{place_ok, all_ok, moves_ok};
@@ -13,21 +13,13 @@ ghost use Rattle.moves_entry.specs.Gathering.{empty_columns, with_move, columns_
 
 use base::Pen;
 use place::Place;
+use refusal::Refusal;
 
 // One pending move.
 #[derive(Clone, Copy)]
 pub struct Move {
     pub src: Place,
     pub dst: Place,
-}
-
-// What comes back; document 01's number of each is `answer_number`, which the promise cites.
-#[derive(Clone, Copy)]
-pub enum Emitted {
-    Done(usize),
-    TooMany,
-    NoRoom,
-    BadMove,
 }
 
 // Moves in one list.
@@ -52,20 +44,9 @@ fn empty_columns(count: usize) -> Columns
     ensures { result ≡ empty_columns count }
 {
     Columns {
-        src: [0u32; MOST_MOVES],
-        dst: [0u32; MOST_MOVES],
-        count: count,
-    }
-}
-
-// How many of so many moves the columns hold.
-fn held_of(count: usize) -> usize
-    ensures { result ≡ min count most_moves }
-{
-    if count < MOST_MOVES {
-        count
-    } else {
-        MOST_MOVES
+        src: [0; MOST_MOVES],
+        dst: [0; MOST_MOVES],
+        count,
     }
 }
 
@@ -74,24 +55,19 @@ fn with_move(c: Columns, i: usize, m: Move) -> Columns
     requires { i < most_moves }
     ensures { result ≡ with_move c i m }
 {
-    let src = m.src;
-    let dst = m.dst;
     let mut r = c;
-    r.src[i] = place::number_of(src);
-    r.dst[i] = place::number_of(dst);
+    r.src[i] = place::number_of(m.src);
+    r.dst[i] = place::number_of(m.dst);
     r
 }
 
-// The columns of a list of moves, which stays as it is.
-fn gather(list: &mut [Move]) -> Columns
-    ensures { (result ≡ columns_of list.old) × (list.new ≡ list.old) }
+// The columns of a list of moves.
+fn gather(list: &[Move]) -> Columns
+    ensures { result ≡ columns_of list.now }
 {
-    let end = held_of(list.len());
     let mut c = empty_columns(list.len());
-    let mut i = 0;
-    while i < end {
+    for i in 0..list.len().min(MOST_MOVES) {
         c = with_move(c, i, list[i]);
-        i += 1;
     }
     c
 }
@@ -107,79 +83,37 @@ fn place_ok(p: u32) -> bool
     }
 }
 
-// Are the first n all such places?
-fn places_ok(ps: &[u32], n: usize) -> bool
-    requires { n ≤ length ps.now }
-    ensures { result ≡ all_ok registers move_slots (take n ps.now) }
+// Are all such places?
+fn places_ok(ps: &[u32]) -> bool
+    ensures { result ≡ all_ok registers move_slots ps.now }
 {
-    let mut i = 0;
-    while i < n {
-        if !place_ok(ps[i]) {
+    ps.iter().all(|p| place_ok(*p))
+}
+
+// Does none stand there twice?
+fn distinct_ok(ps: &[u32]) -> bool
+    ensures { result ≡ distinct ps.now }
+{
+    for (i, p) in ps.iter().enumerate() {
+        if ps[i + 1..].contains(p) {
             return false;
         }
-        i += 1;
     }
     true
 }
 
-// Does x stand among the first n, at or behind `from`?
-fn stands_from(ps: &[u32], from: usize, n: usize, x: u32) -> bool
-    requires { (from ≤ n) × (n ≤ length ps.now) }
-    ensures { result ≡ among x (drop from (take n ps.now)) }
+// Are two columns a list of moves?
+fn moves_ok(src: &[u32], dst: &[u32]) -> bool
+    ensures { result ≡ moves_ok registers move_slots src.now dst.now }
 {
-    let mut i = from;
-    while i < n {
-        if x == ps[i] {
-            return true;
-        }
-        i += 1;
-    }
-    false
-}
-
-// Does none of the first n stand among them twice?
-fn distinct_ok(ps: &[u32], n: usize) -> bool
-    requires { n ≤ length ps.now }
-    ensures { result ≡ distinct (take n ps.now) }
-{
-    let mut i = 0;
-    while i < n {
-        if stands_from(ps, i + 1, n, ps[i]) {
-            return false;
-        }
-        i += 1;
-    }
-    true
-}
-
-// Are the first n of two columns a list of moves?
-fn moves_ok(src: &[u32], dst: &[u32], n: usize) -> bool
-    requires { (n ≤ length src.now) × (n ≤ length dst.now) }
-    ensures { result ≡ moves_ok registers move_slots (take n src.now) (take n dst.now) }
-{
-    if !places_ok(src, n) {
-        return false;
-    }
-    if !places_ok(dst, n) {
-        return false;
-    }
-    distinct_ok(dst, n)
+    places_ok(src) && places_ok(dst) && distinct_ok(dst)
 }
 
 // Are there no more than 190 moves, and is the used length within buffers of so many ops and spans?
 fn few_enough(count: usize, used: usize, ops: usize, spans: usize) -> bool
     ensures { result ≡ pick (leb count most_moves) (pick (leb used ops) (pick (leb used spans) (leb used most_of_a_kind) Bool.false) Bool.false) Bool.false }
 {
-    if MOST_MOVES < count {
-        return false;
-    }
-    if ops < used {
-        return false;
-    }
-    if spans < used {
-        return false;
-    }
-    used <= MOST_OPS
+    count <= MOST_MOVES && used <= ops && used <= spans && used <= MOST_OPS
 }
 
 // The words of the columns' moves, with their spans, at the front of two buffers that have room for any list's; how many they are.
@@ -189,38 +123,38 @@ fn words_of(words: &mut [u64], marks: &mut [u32], span: u32, c: Columns) -> usiz
 {
     let mut src = c.src;
     let mut dst = c.dst;
-    let count = c.count;
     let p = Pen {
         at: 0,
         room: MOST_WORDS,
         full: false,
         last: 0,
-        span: span,
+        span,
     };
-    let q = moves_code::put_moves(words, marks, p, &mut src, &mut dst, count);
+    let q = moves_code::put_moves(words, marks, p, &mut src, &mut dst, c.count);
     q.at
 }
 
 // The ops of a list of moves behind the used length where there is room for them in both buffers.
-fn append(ops: &mut [u64], spans: &mut [u32], used: usize, span: u32, c: Columns) -> Emitted
+fn append(
+    ops: &mut [u64],
+    spans: &mut [u32],
+    used: usize,
+    span: u32,
+    c: Columns,
+) -> Result<usize, Refusal>
     requires { few_enough c.count used ops.old spans.old ≡ Bool.true }
     ensures { outcome result ops.new spans.new ≡ appended (move_words registers (sources_in c) (destinations_in c)) used span ops.old spans.old }
 {
-    let mut words = [0u64; MOST_WORDS];
-    let mut marks = [0u32; MOST_WORDS];
+    let mut words = [0; MOST_WORDS];
+    let mut marks = [0; MOST_WORDS];
     let n = words_of(&mut words, &mut marks, span, c);
-    if MOST_OPS - used < n {
-        return Emitted::NoRoom;
+    let room = MOST_OPS.min(ops.len()).min(spans.len());
+    if room - used < n {
+        return Err(Refusal::NoRoom);
     }
-    if ops.len() - used < n {
-        return Emitted::NoRoom;
-    }
-    if spans.len() - used < n {
-        return Emitted::NoRoom;
-    }
-    base::copy64(ops, used, &words[..n]);
-    base::copy32(spans, used, &marks[..n]);
-    Emitted::Done(used + n)
+    base::copy(ops, used, &words[..n]);
+    base::copy(spans, used, &marks[..n]);
+    Ok(used + n)
 }
 
 // The entry over columns: the ops of their moves behind the used length, all with one span. A refused call changes nothing.
@@ -230,17 +164,14 @@ pub fn emit_columns(
     used: usize,
     span: u32,
     c: Columns,
-) -> Emitted
+) -> Result<usize, Refusal>
     ensures { outcome result ops.new spans.new ≡ columns_outcome registers c used span ops.old spans.old }
 {
-    let count = c.count;
-    if !few_enough(count, used, ops.len(), spans.len()) {
-        return Emitted::TooMany;
+    if !few_enough(c.count, used, ops.len(), spans.len()) {
+        return Err(Refusal::TooMany);
     }
-    let src = c.src;
-    let dst = c.dst;
-    if !moves_ok(&src, &dst, count) {
-        return Emitted::BadMove;
+    if !moves_ok(&c.src[..c.count], &c.dst[..c.count]) {
+        return Err(Refusal::BadMove);
     }
     append(ops, spans, used, span, c)
 }
@@ -252,7 +183,7 @@ pub fn emit_moves(
     used: usize,
     span: u32,
     list: &mut [Move],
-) -> Emitted
+) -> Result<usize, Refusal>
     ensures { (outcome result ops.new spans.new ≡ outcome_of registers (sources_of list.old) (destinations_of list.old) used span ops.old spans.old) × (list.new ≡ list.old) }
 {
     let c = gather(list);

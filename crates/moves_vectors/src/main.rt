@@ -5,7 +5,8 @@
 ghost use Rattle.std.specs.Prelude.{◌≡◌, ◌≤◌};
 ghost use Rattle.moves_entry.specs.Entry.{answer_number, used_for};
 
-use moves_entry::{Columns, Emitted};
+use moves_entry::Columns;
+use refusal::Refusal;
 
 // How many words a row has, and each buffer.
 const WIDTH: usize = 16;
@@ -19,20 +20,12 @@ struct Answer {
     used: u64,
 }
 
-fn answer_of(e: Emitted) -> Answer
+fn answer_of(e: Result<usize, Refusal>) -> Answer
     ensures { (result.number ≡ answer_number e) × (result.used ≡ used_for e) }
 {
-    match e {
-        Emitted::Done(used) => Answer {
-            number: 0,
-            used: used as u64,
-        },
-        Emitted::TooMany => Answer { number: 2, used: 0 },
-        Emitted::NoRoom => Answer { number: 9, used: 0 },
-        Emitted::BadMove => Answer {
-            number: 10,
-            used: 0,
-        },
+    Answer {
+        number: refusal::number_for(e) as u64,
+        used: e.unwrap_or(0) as u64,
     }
 }
 
@@ -40,11 +33,11 @@ fn answer_of(e: Emitted) -> Answer
 fn moves_of(text: &[u8], row: usize) -> Columns {
     let mut src = [0u32; 190];
     let mut dst = [0u32; 190];
-    replay::put32(text, row, 0, &mut src);
-    replay::put32(text, row, 2, &mut dst);
+    replay::put(text, row, 0, &mut src);
+    replay::put(text, row, 2, &mut dst);
     Columns {
-        src: src,
-        dst: dst,
+        src,
+        dst,
         count: replay::word_in(text, row, 1) as usize,
     }
 }
@@ -53,7 +46,7 @@ fn moves_of(text: &[u8], row: usize) -> Columns {
 fn lent(text: &[u8], row: usize, k: usize) -> usize
     ensures { result ≤ 1024 }
 {
-    replay::least(replay::word_in(text, row, k) as usize, ROOM)
+    (replay::word_in(text, row, k) as usize).min(ROOM)
 }
 
 // What differs in a call: 1 for the number, 2 for the used length, 4 for the ops, 8 for the spans.
@@ -71,19 +64,17 @@ fn differences(text: &[u8], row: usize) -> usize {
     ));
     replay::wrong(text, row, 8, a.number, 1)
         | replay::wrong(text, row, 9, a.used, 2)
-        | replay::wrong64(text, row, 10, &ops, ROOM, 4)
-        | replay::wrong32(text, row, 13, &spans, ROOM, 8)
+        | replay::wrong_list(text, row, 10, &ops, ROOM, 4)
+        | replay::wrong_list(text, row, 13, &spans, ROOM, 8)
 }
 
 fn main() {
     let mut text = records::no_text();
-    let calls = records::next_word();
+    let calls = replay::next_word();
     let mut r = records::start();
-    let mut done = 0;
-    while done < calls {
+    for _ in 0..calls {
         r = records::next(&mut text, r, WIDTH);
         r = records::told(r, differences(&text, r.row));
-        done += 1;
     }
     records::report(r);
 }

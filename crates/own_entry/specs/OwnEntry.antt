@@ -1,15 +1,16 @@
 -- A function's own entry in the function table, and what stands in the buffers with it.
-use Rattle.std.specs.Prelude.{◌≡◌, ℕ, ◌+◌, ◌≤◌, ◌<◌, List, leb, eqb, length, get_or, take, set}
+use Rattle.std.specs.Prelude.{◌≡◌, ℕ, ◌+◌, ◌≤◌, ◌<◌, List, Result, IfOk, OnErr, leb, length, get_or, take, set}
 use Rattle.std.proofs.lemmas.List.Edits.{sets}
 use Rattle.base.specs.Choice.{pick}
 use Rattle.base.specs.Buffers.{zero_from}
 use Rattle.base.specs.Emission.{Out}
+use Rattle.refusal.specs.declared.Refusal.{Refusal}
+use Rattle.refusal.specs.Numbers.{number_for}
 use Rattle.program.specs.Functions.{function_at, bytecode}
 use Rattle.input.specs.Layout.{function_id, values}
 use Rattle.lower.specs.Operands.{place_at}
 use Rattle.placing.specs.declared.Placed.{Placed}
 use Rattle.lists.specs.declared.Used.{Used}
-use Rattle.lists.specs.declared.Tried.{Tried}
 use Rattle.used.specs.Pens.{op_room}
 
 -- it is the pc that the function starts at
@@ -50,8 +51,8 @@ pub record NotPut (u : Used) (ops spans functions ops'' spans'' functions'' : Li
   pub spans_kept : zero_from spans'' u.ops ≡ zero_from spans u.ops
   pub functions_kept : functions'' ≡ functions
 
--- behind the number k of a refusal so far, 0 for none, with which nothing is done; functions' is the table with the function's entry
-pub record Assembled (out : Out) (k : ℕ) (u l : Used) (ops spans functions functions' ops'' spans'' labels'' functions'' : List ℕ) (r : Tried) : Type 0 where
-  pub number_is : r.number ≡ pick (eqb k 0) (pick (leb (length out.ops) (op_room ops spans)) 0 9) k
-  pub put : r.number ≡ 0 → Put out functions' l ops spans ops'' spans'' labels'' functions'' r.used
-  pub not_put : (r.number ≡ 0 → ⊥) → NotPut u ops spans functions ops'' spans'' functions''
+-- functions' is the table with the function's entry
+pub record Assembled (out : Out) (u l : Used) (ops spans functions functions' ops'' spans'' labels'' functions'' : List ℕ) (r : Result Used Refusal) : Type 0 where
+  pub number_is : number_for r ≡ pick (leb (length out.ops) (op_room ops spans)) 0 9
+  pub put : IfOk r (λ l'. Put out functions' l ops spans ops'' spans'' labels'' functions'' l')
+  pub not_put : OnErr r (NotPut u ops spans functions ops'' spans'' functions'')

@@ -1,62 +1,55 @@
 -- Each exit of the entry, over plain variables.
+use Rattle.std.specs.Prelude.{Result, Ok, Err}
 use Prim.Native.Nat.{ℕ, ◌<◌}
-use mathlib.Core.Bool.{true, false}
+use mathlib.Core.Bool.{Bool, true, false}
 use mathlib.Core.List.{List}
-use mathlib.Core.Path.{◌≡◌, refl, sym, ap, ◌∙◌}
-use lib.Dec.{eqb}
+use mathlib.Core.Path.{◌≡◌, refl, sym}
 use lib.ListN.{length, get_or}
-use lib.Seq.{sets}
-use borrow.Author.Tests.{eqb-true}
+use native.Mathlib.Omega.{arith}
+use Rattle.base.specs.Choice.{pick}
 use Rattle.base.specs.Buffers.{zero_from}
 use Rattle.base.proofs.Buffers.{zero_from-same}
-use Rattle.alloc.specs.declared.Alloc.{Alloc}
+use Rattle.refusal.specs.declared.Refusal.{Refusal}
+use Rattle.refusal.specs.Numbers.{number_of}
 use Rattle.input.specs.Layout.{head_field}
-use Rattle.judge.specs.declared.Verdict.{Verdict}
-use Rattle.judge.specs.Judged.{verdict_number, unfit}
-use Rattle.assign.specs.Walk.{assigned, used_below, slots_ok}
+use Rattle.judge.specs.Judged.{unfit}
+use Rattle.judge.proofs.Verdicts.{some}
+use Rattle.assign.specs.Walk.{slots_ok}
 use Rattle.ready.specs.Ready.{Ready}
 use Rattle.ready.proofs.Given.{ready}
 use Rattle.place.specs.Registers.{registers}
 use Rattle.place.proofs.Registers.{registers_most}
-use Rattle.placing.specs.declared.Placing.{Placing}
-use Rattle.placing.specs.declared.Placing.TheVariants.{Given, Unfit, NoSlot, NoRoom}
-use Rattle.placing.specs.Placing.{room_ok, refusal, Outcome, outcome, outcome_of}
+use Rattle.placing.specs.declared.Placed.{Placed}
+use Rattle.placing.specs.Placing.{room_ok, refusal, Outcome, outcome, outcome_of, PlacesTried}
 
 -- no refusal from 1 to 7
-module _ (ws functions : List ℕ) (v : Verdict) (is : verdict_number v ≡ unfit registers ws functions) (fit : eqb (verdict_number v) 0 ≡ true) where
-  pub judged-fit : unfit registers ws functions ≡ 0
-  judged-fit = sym is ∙ eqb-true (verdict_number v) 0 fit
+pub judged_ready : (ws functions : List ℕ) → 0 ≡ unfit registers ws functions → get_or ws 13 0 < 4294967296 → Ready ws
+unfolding head_field
+judged_ready ws functions fit word = ready registers registers_most ws functions word (sym fit)
 
-  pub judged_ready : get_or ws 13 0 < 4294967296 → Ready ws
-  unfolding head_field
-  judged_ready word = ready registers registers_most ws functions word judged-fit
+passed : (s r : Bool) → ◌≡◌ {A = ℕ} 0 (pick s (pick r 0 9) 8) → (s ≡ true) × (r ≡ true)
+passed true true e = (refl, refl)
+passed true false e = absurd (omega arith)
+passed false r e = absurd (omega arith)
 
 module _ (n : ℕ) (ws functions map hints noted : List ℕ) where
-  pub ends-unfit : (v : Verdict) → verdict_number v ≡ unfit n ws functions → eqb (verdict_number v) 0 ≡ false
-      → outcome (Unfit v) map (zero_from hints 0) (zero_from noted 0) ≡ outcome_of n ws functions map hints noted
+  pub ends-unfit : (why : Refusal) → number_of why ≡ unfit n ws functions
+      → outcome (Err why) map (zero_from hints 0) (zero_from noted 0) ≡ outcome_of n ws functions map hints noted
   unfolding outcome_of refusal
-  ends-unfit v e h = rw (← e, h, h)
+  ends-unfit why e = rw (← e, some why, some why)
 
-  module _ (fit : unfit n ws functions ≡ 0) where
-    pub ends_no_slot : slots_ok n ws ≡ false
-        → outcome NoSlot map (zero_from hints 0) (zero_from noted 0) ≡ outcome_of n ws functions map hints noted
-    unfolding outcome_of refusal
-    ends_no_slot h = rw (fit, h)
-
-    pub ends_no_room : slots_ok n ws ≡ true → room_ok ws map hints noted ≡ false
-        → outcome NoRoom map (zero_from hints 0) (zero_from noted 0) ≡ outcome_of n ws functions map hints noted
-    unfolding outcome_of refusal
-    ends_no_room h k = rw (fit, h, k)
-
-    pub ends-given : slots_ok n ws ≡ true → room_ok ws map hints noted ≡ true → (s : Alloc) (top : ℕ) (map' : List ℕ) → s ≡ (assigned n ws).alloc
-        → top ≡ used_below (get_or s.used 0 0) 64 → map' ≡ sets map 0 (assigned n ws).map
-        → outcome (Given s.made top) map' (zero_from hints 0) (zero_from noted 0) ≡ outcome_of n ws functions map hints noted
-    unfolding outcome_of refusal
-    ends-given h k s top map' es et em =
-        let u : top ≡ used_below (get_or (assigned n ws).alloc.used 0 0) 64 = et ∙ ap (λ (a : Alloc). used_below (get_or a.used 0 0) 64) es in
-        rw (fit, h, k, u, em, es)
+  -- behind no refusal from 1 to 7, what giving places leaves
+  pub ends-tried : 0 ≡ unfit n ws functions → (r : Result Placed Refusal) (map' noted' : List ℕ) → PlacesTried n ws map hints noted map' noted' r
+      → outcome r map' (zero_from hints 0) (zero_from noted 0) ≡ outcome_of n ws functions map hints noted
+  unfolding outcome_of refusal
+  ends-tried fit (Ok p) map' noted' t =
+      let e = passed (slots_ok n ws) (room_ok ws map hints noted) t.number_is in
+      let g = t.given in
+      rw (← fit, e.0, e.1, g.slots_is, g.top_is, g.places_is)
+  ends-tried fit (Err why) map' noted' t =
+      rw (← fit, ← t.number_is, some why, t.kept)
 
 -- the work room zeroed, whatever was left there
-pub ends-zero : (r : Placing) (map hints hints' noted noted' : List ℕ) (o : Outcome) → length hints' ≡ length hints → length noted' ≡ length noted
+pub ends-zero : (r : Result Placed Refusal) (map hints hints' noted noted' : List ℕ) (o : Outcome) → length hints' ≡ length hints → length noted' ≡ length noted
     → outcome r map (zero_from hints 0) (zero_from noted 0) ≡ o → outcome r map (zero_from hints' 0) (zero_from noted' 0) ≡ o
 ends-zero r map hints hints' noted noted' o eh en e = rw (zero_from-same hints' hints 0 refl eh, zero_from-same noted' noted 0 refl en) e

@@ -5,18 +5,15 @@ use mathlib.Core.Path.{◌≡◌, ap, ◌∙◌}
 use native.Mathlib.Omega.{arith}
 use lib.ListN.{length, get_or, set, take, drop, replicate, length-set, length-replicate}
 use lib.Seq.{take_at}
+use Rattle.std.specs.Prelude.{Option, Some, None}
 use Rattle.base.proofs.Lists.{sets-front}
 use Rattle.base.proofs.Numbers.{pick_case}
 use Rattle.place.specs.declared.Reg.TheVariants.{Gpr}
 use Rattle.place.specs.declared.Place.{Place}
 use Rattle.place.specs.declared.Place.TheVariants.{Register}
-use Rattle.place.specs.declared.Found.{Found}
-use Rattle.place.specs.declared.Found.TheVariants as found
 use Rattle.place.specs.Places.{found_of, word_of}
 use Rattle.place.proofs.Places.{number_lt}
 use Rattle.alloc.specs.declared.Alloc.{Alloc}
-use Rattle.alloc.specs.declared.Got.{Got}
-use Rattle.alloc.specs.declared.Got.TheVariants as got
 use Rattle.alloc.specs.State.{most_slots}
 use Rattle.alloc.specs.Allocation.{expire_of, is_free, take_of, map_entered, map_again, map_after_place}
 use Rattle.alloc.specs.Good.{Known, Good}
@@ -36,22 +33,22 @@ record Words (k : ℕ) (map : List ℕ) : Type 0 where
   long : length map ≡ k
   low : (v : ℕ) → get_or map v 0 < 66049
 
-word_low : (p : Place) → Known most_slots p → word_of (found.At p) < 66049
+word_low : (p : Place) → Known most_slots p → word_of (Some p) < 66049
 word_low p h = omega (arith, number_lt p (known_fits p h))
 
-words_set : (k : ℕ) (map : List ℕ) (v : ℕ) (p : Place) → Known most_slots p → Words k map → Words k (set map v (word_of (found.At p)))
+words_set : (k : ℕ) (map : List ℕ) (v : ℕ) (p : Place) → Known most_slots p → Words k map → Words k (set map v (word_of (Some p)))
 words_set k map v p h w =
-    record { long = simp length-set w.long; low = set_below 66049 map v (word_of (found.At p)) w.low (word_low p h) }
+    record { long = simp length-set w.long; low = set_below 66049 map v (word_of (Some p)) w.low (word_low p h) }
 
-words_entered : (k : ℕ) (map : List ℕ) (v : ℕ) (t : Alloc) (x : Got) → PendingFor t x → Words k map → Words k (map_entered map v x)
+words_entered : (k : ℕ) (map : List ℕ) (v : ℕ) (t : Alloc) (x : Option Place) → PendingFor t x → Words k map → Words k (map_entered map v x)
 unfolding map_entered
-words_entered k map v t (got.At p) h w =
+words_entered k map v t (Some p) h w =
     words_set k map v p (known_more t.made most_slots p h.capped (h.known p (omega (arith, same_self p)))) w
-words_entered k map v t got.NoSlot h w = w
+words_entered k map v t None h w = w
 
-words_again : (k : ℕ) (map new : List ℕ) (f : Found) → Words k map → Words k new → Words k (map_again map f new)
-words_again k map new (found.At p) w w' = w
-words_again k map new found.Nowhere w w' = w'
+words_again : (k : ℕ) (map new : List ℕ) (f : Option Place) → Words k map → Words k new → Words k (map_again map f new)
+words_again k map new (Some p) w w' = w
+words_again k map new None w w' = w'
 
 -- what each step keeps
 record Sound (k : ℕ) (w : Walk) : Type 0 where

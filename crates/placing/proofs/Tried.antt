@@ -1,14 +1,15 @@
 -- Each exit of place_values, over plain variables.
+use Rattle.std.specs.Prelude.{Ok, Err}
 use Prim.Native.Nat.{ℕ, zero, suc, ◌≤◌}
 use mathlib.Core.Bool.{true, false}
 use mathlib.Core.List.{List}
-use mathlib.Core.Path.{◌≡◌, refl, sym, ap, ◌∙◌}
+use mathlib.Core.Path.{◌≡◌, refl, ap, ◌∙◌}
 use native.Mathlib.Omega.{arith}
 use lib.ListN.{length, get_or, take}
 use lib.Seq.{sets}
-use borrow.Author.Tests.{eq-eqb, ne_eqb}
 use Rattle.base.specs.Masks.{has_bit}
 use Rattle.base.proofs.Numbers.{pick-both}
+use Rattle.refusal.specs.declared.Refusal.TheVariants.{NoSlot, NoRoom}
 use Rattle.alloc.specs.declared.Alloc.{Alloc}
 use Rattle.alloc.specs.Good.{Good}
 use Rattle.input.specs.Layout.{values}
@@ -23,21 +24,16 @@ unfolding used_below
 used_most m zero = omega arith
 used_most m (suc k) = pick-both (λ (x : ℕ). x ≤ suc k) (has_bit m k) (suc k) (used_below m k) (omega arith) (omega (arith, used_most m k))
 
-module _ (n k : ℕ) (ws places hints noted places' noted' : List ℕ) (r : Placed) where
-  pub tried_refused : (k ≡ 0 → ⊥) → r.number ≡ k → PlacesTried n k ws places hints noted places' noted' r
-  tried_refused ne e = record { number_is = rw (ne_eqb k 0 ne) e; given = λ z. absurd (ne (sym e ∙ z)) }
+module _ (n : ℕ) (ws places hints noted places' noted' : List ℕ) where
+  pub tried_no_slot : slots_ok n ws ≡ false → PlacesTried n ws places hints noted places noted' (Err NoSlot)
+  tried_no_slot h = record { number_is = rw h; given = tt; kept = refl }
 
-  module _ (fit : k ≡ 0) where
-    pub tried_no_slot : slots_ok n ws ≡ false → r.number ≡ 8 → PlacesTried n k ws places hints noted places' noted' r
-    tried_no_slot h e = record { number_is = rw (eq-eqb k 0 fit, h) e; given = λ z. absurd (omega arith) }
+  pub tried_no_room : slots_ok n ws ≡ true → room_ok ws places hints noted ≡ false → PlacesTried n ws places hints noted places noted' (Err NoRoom)
+  tried_no_room h q = record { number_is = rw (h, q); given = tt; kept = refl }
 
-    pub tried_no_room : slots_ok n ws ≡ true → room_ok ws places hints noted ≡ false → r.number ≡ 9
-        → PlacesTried n k ws places hints noted places' noted' r
-    tried_no_room h q e = record { number_is = rw (eq-eqb k 0 fit, h, q) e; given = λ z. absurd (omega arith) }
-
-    pub tried_given : slots_ok n ws ≡ true → room_ok ws places hints noted ≡ true → r.number ≡ 0 → PlacesGiven n ws places places' noted' r
-        → PlacesTried n k ws places hints noted places' noted' r
-    tried_given h q e g = record { number_is = rw (eq-eqb k 0 fit, h, q) e; given = λ z. g }
+  pub tried_given : (r : Placed) → slots_ok n ws ≡ true → room_ok ws places hints noted ≡ true → PlacesGiven n ws places places' noted' r
+      → PlacesTried n ws places hints noted places' noted' (Ok r)
+  tried_given r h q g = record { number_is = rw (h, q); given = g; kept = tt }
 
 -- what the allocator came to
 pub places-given : (n : ℕ) (ws places hints noted places' noted' : List ℕ) (r : Placed) (s : Alloc) → room_ok ws places hints noted ≡ true

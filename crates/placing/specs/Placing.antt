@@ -1,39 +1,27 @@
 -- Judging a function and giving its places, without compiling it: what the entry answers, and what the lent buffers hold afterwards.
-use Rattle.std.specs.Prelude.{◌≡◌, ℕ, ◌≤◌, Bool, List, leb, eqb, length, take}
+use Rattle.std.specs.Prelude.{◌≡◌, ℕ, ◌≤◌, Bool, List, Result, Ok, Err, IfOk, OnErr, leb, eqb, length, take}
 use Rattle.std.proofs.lemmas.List.Edits.{sets}
 use Rattle.base.specs.Choice.{pick}
 use Rattle.base.specs.Buffers.{zero_from}
+use Rattle.refusal.specs.declared.Refusal.{Refusal}
+use Rattle.refusal.specs.Numbers as refusals
 use Rattle.input.specs.Layout.{values}
 use Rattle.input.specs.Forms.{both}
-use Rattle.judge.specs.declared.Verdict.{Verdict}
-use Rattle.judge.specs.Judged.{verdict_number, unfit}
+use Rattle.judge.specs.Judged.{unfit}
 use Rattle.assign.specs.Walk.{assigned, slots_made, top_used, slots_ok}
 use Rattle.placing.specs.declared.Placed.{Placed}
-use Rattle.placing.specs.declared.Placing.{Placing}
-use Rattle.placing.specs.declared.Placing.TheVariants.{Given, Unfit, NoSlot, NoRoom}
-
--- Unfit goes with a refusal: with Fit it is no answer, and its number is none of document 01's, so that no promise allows it
-abbrev pub refused_for : Verdict → ℕ
-refused_for v = pick (eqb (verdict_number v) 0) 255 (verdict_number v)
 
 -- document 01's number of each answer; the slots made, and one past the highest general register used
-abbrev pub number_for : Placing → ℕ
-number_for (Given slots top) = 0
-number_for (Unfit v) = refused_for v
-number_for NoSlot = 8
-number_for NoRoom = 9
+abbrev pub number_for : Result Placed Refusal → ℕ
+number_for r = refusals.number_for r
 
-abbrev pub slots_for : Placing → ℕ
-slots_for (Given slots top) = slots
-slots_for (Unfit v) = 0
-slots_for NoSlot = 0
-slots_for NoRoom = 0
+abbrev pub slots_for : Result Placed Refusal → ℕ
+slots_for (Ok g) = g.slots
+slots_for (Err why) = 0
 
-abbrev pub top_for : Placing → ℕ
-top_for (Given slots top) = top
-top_for (Unfit v) = 0
-top_for NoSlot = 0
-top_for NoRoom = 0
+abbrev pub top_for : Result Placed Refusal → ℕ
+top_for (Ok g) = g.top
+top_for (Err why) = 0
 
 -- 9: each buffer has a word for each value
 unfoldable pub room_ok : List ℕ → List ℕ → List ℕ → List ℕ → Bool
@@ -60,7 +48,7 @@ pub record Outcome : Type 0 where
   pub hints : List ℕ
   pub noted : List ℕ
 
-abbrev pub outcome : Placing → List ℕ → List ℕ → List ℕ → Outcome
+abbrev pub outcome : Result Placed Refusal → List ℕ → List ℕ → List ℕ → Outcome
 outcome answer map hints noted =
     record { number = number_for answer; slots = slots_for answer; top = top_for answer; map = map; hints = hints; noted = noted }
 
@@ -86,7 +74,7 @@ outcome_of n ws functions map hints noted =
       noted = zero_from noted 0;
     })
 
--- ---- inside the compiler, behind the number k of a refusal so far, 0 for none, with which nothing is done
+-- ---- inside the compiler, of a function that no refusal from 1 to 7 hits
 
 -- places given: a word for each value in front of the place buffer, and the registers noted for each
 pub record PlacesGiven (n : ℕ) (ws places places' noted' : List ℕ) (r : Placed) : Type 0 where
@@ -99,6 +87,7 @@ pub record PlacesGiven (n : ℕ) (ws places places' noted' : List ℕ) (r : Plac
   pub top_is : r.top ≡ top_used n ws
   pub top_low : r.top ≤ 64
 
-pub record PlacesTried (n k : ℕ) (ws places hints noted places' noted' : List ℕ) (r : Placed) : Type 0 where
-  pub number_is : r.number ≡ pick (eqb k 0) (pick (slots_ok n ws) (pick (room_ok ws places hints noted) 0 9) 8) k
-  pub given : r.number ≡ 0 → PlacesGiven n ws places places' noted' r
+pub record PlacesTried (n : ℕ) (ws places hints noted places' noted' : List ℕ) (r : Result Placed Refusal) : Type 0 where
+  pub number_is : number_for r ≡ pick (slots_ok n ws) (pick (room_ok ws places hints noted) 0 9) 8
+  pub given : IfOk r (λ p. PlacesGiven n ws places places' noted' p)
+  pub kept : OnErr r (places' ≡ places)

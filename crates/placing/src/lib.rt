@@ -1,28 +1,26 @@
 // Judging a function and giving its places, without compiling it.
 #![tactic(auto)]
 
-ghost use Rattle.std.specs.Prelude.{◌≡◌, true, List, ℕ, eqb, take};
+ghost use Rattle.std.specs.Prelude.{◌≡◌, true, List, ℕ, take};
 ghost use Rattle.std.proofs.lemmas.List.Edits.{sets};
 ghost use Rattle.base.specs.Buffers.{zero_from};
 ghost use Rattle.place.specs.Registers.{registers};
 ghost use Rattle.alloc.specs.Good.{Good};
 ghost use Rattle.input.specs.Layout.{values};
-ghost use Rattle.judge.specs.Judged.{verdict_number, unfit};
+ghost use Rattle.judge.specs.Judged.{unfit};
 ghost use Rattle.assign.specs.Walk.{assigned, slots_ok};
 ghost use Rattle.assign.specs.Fits.{Fits, Lent};
 ghost use Rattle.ready.specs.Ready.{Ready};
 ghost use Rattle.placing.specs.Placing.{room_ok, outcome, outcome_of, PlacesTried};
 
 use alloc::Alloc;
-use judge::Verdict;
+use refusal::Refusal;
 
+// Slots made, and one past the highest general register used.
 #[derive(Clone, Copy)]
-pub enum Placing {
-    // slots made, and one past the highest general register used
-    Given(u16, u8),
-    Unfit(Verdict),
-    NoSlot,
-    NoRoom,
+pub struct Placed {
+    pub slots: u8,
+    pub top: u8,
 }
 
 // Has each buffer a word for each value?
@@ -65,31 +63,29 @@ pub fn all_fit(ws: &[u32]) -> bool
     fit_in(ws, &mut map[..n], &mut hints[..n], &mut noted[..n])
 }
 
-// The places of a function that no refusal from 1 to 7 hits.
-fn fit_places(ws: &[u32], map: &mut [u32], hints: &mut [u32], noted: &mut [u64]) -> Placing
+// The places of a function that no refusal from 1 to 7 hits. A refused call leaves the place buffer as it was.
+pub fn place_values(
+    ws: &[u32],
+    places: &mut [u32],
+    hints: &mut [u32],
+    noted: &mut [u64],
+) -> Result<Placed, Refusal>
     requires { Ready ws.now }
-    ensures { (functions : List ℕ) → unfit registers ws.now functions ≡ 0 → outcome result map.new (zero_from hints.old 0) (zero_from noted.old 0) ≡ outcome_of registers ws.now functions map.old hints.old noted.old }
+    ensures { PlacesTried registers ws.now places.old hints.old noted.old places.new noted.new result }
 {
-    let fits = all_fit(ws);
-    let room = room_ok(ws, map, hints, noted);
-    if !fits {
-        return Placing::NoSlot;
+    let enough = all_fit(ws);
+    let wide = room_ok(ws, places, hints, noted);
+    if !enough {
+        return Err(Refusal::NoSlot);
     }
-    if !room {
-        return Placing::NoRoom;
+    if !wide {
+        return Err(Refusal::NoRoom);
     }
-    let s = give(ws, map, hints, noted);
-    Placing::Given(s.made, walk::top_used(s))
-}
-
-// No refusal?
-fn is_fit(v: Verdict) -> bool
-    ensures { result ≡ eqb (verdict_number v) 0 }
-{
-    match v {
-        Verdict::Fit => true,
-        _ => false,
-    }
+    let s = give(ws, places, hints, noted);
+    Ok(Placed {
+        slots: s.made as u8,
+        top: walk::top_used(s),
+    })
 }
 
 // The places of any function. The work room is not zero yet.
@@ -99,14 +95,11 @@ fn attempt(
     map: &mut [u32],
     hints: &mut [u32],
     noted: &mut [u64],
-) -> Placing
+) -> Result<Placed, Refusal>
     ensures { outcome result map.new (zero_from hints.old 0) (zero_from noted.old 0) ≡ outcome_of registers ws.now functions.now map.old hints.old noted.old }
 {
-    let v = judge::judge(ws, functions);
-    if is_fit(v) {
-        return fit_places(ws, map, hints, noted);
-    }
-    Placing::Unfit(v)
+    judge::judge(ws, functions)?;
+    place_values(ws, map, hints, noted)
 }
 
 // Any words, any function table, any buffers. Hints and noted registers are work room.
@@ -116,60 +109,11 @@ pub fn places(
     map: &mut [u32],
     hints: &mut [u32],
     noted: &mut [u64],
-) -> Placing
+) -> Result<Placed, Refusal>
     ensures { outcome result map.new hints.new noted.new ≡ outcome_of registers ws.now functions.now map.old hints.old noted.old }
 {
     let r = attempt(ws, functions, map, hints, noted);
-    base::zero32(hints, 0);
-    base::zero64(noted, 0);
+    base::fill_from(hints, 0, 0);
+    base::fill_from(noted, 0, 0);
     r
-}
-
-// The number of the refusal, 0 for none; slots made, and one past the highest general register used.
-#[derive(Clone, Copy)]
-pub struct Placed {
-    pub number: u8,
-    pub slots: u8,
-    pub top: u8,
-}
-
-// No places.
-fn refused(number: u8) -> Placed
-    ensures { result.number ≡ number }
-{
-    Placed {
-        number: number,
-        slots: 0,
-        top: 0,
-    }
-}
-
-// The places of a function's values, unless a number says that it is refused.
-pub fn place_values(
-    k: u8,
-    ws: &[u32],
-    places: &mut [u32],
-    hints: &mut [u32],
-    noted: &mut [u64],
-) -> Placed
-    requires { k ≡ 0 → Ready ws.now }
-    ensures { PlacesTried registers k ws.now places.old hints.old noted.old places.new noted.new result }
-{
-    if k != 0 {
-        return refused(k);
-    }
-    let enough = all_fit(ws);
-    let wide = room_ok(ws, places, hints, noted);
-    if !enough {
-        return refused(8);
-    }
-    if !wide {
-        return refused(9);
-    }
-    let s = give(ws, places, hints, noted);
-    Placed {
-        number: 0,
-        slots: s.made as u8,
-        top: walk::top_used(s),
-    }
 }

@@ -9,14 +9,14 @@ use lib.Dec.{ltb}
 use lib.ListN.{length, get_or, get_or-eq_default}
 use Rattle.base.specs.Choice.{pick}
 use Rattle.base.proofs.Numbers.{lt?}
-use Rattle.reader.specs.declared.Step.TheVariants.{Word, End}
+use Rattle.std.specs.Prelude.{Some, None}
 use Rattle.reader.specs.Reader.{step_at, step_number, step_word}
 
 -- 0 before the end, 1 from there on
 pub step-number : (ws : List ℕ) (at : ℕ) → step_number (step_at ws at) ≡ pick (ltb at (length ws)) 0 1
 step-number ws at = of (ltb at (length ws))
   where
-    of : (before : Bool) → step_number (pick before (Word (get_or ws at 0)) End) ≡ pick before 0 1
+    of : (before : Bool) → step_number (pick before (Some (get_or ws at 0)) None) ≡ pick before 0 1
     of true = refl
     of false = refl
 

@@ -1,19 +1,17 @@
 -- Reading words one by one: what stands at a position.
-use Rattle.std.specs.Prelude.{ℕ, List, ltb, length, get_or}
+use Rattle.std.specs.Prelude.{ℕ, List, ltb, length, get_or, Option, Some, None}
 use Rattle.base.specs.Choice.{pick}
-use Rattle.reader.specs.declared.Step.{Step}
-use Rattle.reader.specs.declared.Step.TheVariants.{Word, End}
 
 -- the word, or the end
-abbrev pub step_at : List ℕ → ℕ → Step
-step_at ws at = pick (ltb at (length ws)) (Word (get_or ws at 0)) End
+abbrev pub step_at : List ℕ → ℕ → Option ℕ
+step_at ws at = pick (ltb at (length ws)) (Some (get_or ws at 0)) None
 
 -- document 01's number of each answer: 0 Done, 1 BadWord, since the input is cut short
-abbrev pub step_number : Step → ℕ
-step_number (Word w) = 0
-step_number End = 1
+abbrev pub step_number : Option ℕ → ℕ
+step_number (Some w) = 0
+step_number None = 1
 
 -- the word of each answer, 0 at the end
-abbrev pub step_word : Step → ℕ
-step_word (Word w) = w
-step_word End = 0
+abbrev pub step_word : Option ℕ → ℕ
+step_word (Some w) = w
+step_word None = 0

@@ -11,22 +11,11 @@ pub struct Reader<'a> {
     pub at: usize,
 }
 
-// The word at a position, or the end.
-#[derive(Clone, Copy)]
-pub enum Step {
-    Word(u32),
-    End,
-}
-
-// What stands at a position.
-pub fn step_at(ws: &[u32], at: usize) -> Step
+// The word at a position, or None at the end.
+pub fn step_at(ws: &[u32], at: usize) -> Option<u32>
     ensures { result ≡ step_at ws.now at }
 {
-    if at < ws.len() {
-        Step::Word(ws[at])
-    } else {
-        Step::End
-    }
+    ws.get(at).copied()
 }
 
 // A reader at the first word.
@@ -37,7 +26,7 @@ pub fn new<'a>(words: &'a [u32]) -> Reader<'a>
 }
 
 // What stands where the reader is.
-pub fn next<'a>(r: Reader<'a>) -> Step
+pub fn next<'a>(r: Reader<'a>) -> Option<u32>
     ensures { result ≡ step_at r.entry.words.now r.entry.at }
 {
     step_at(r.words, r.at)
@@ -47,11 +36,11 @@ pub fn next<'a>(r: Reader<'a>) -> Step
 pub fn moved<'a>(r: Reader<'a>, at: usize) -> Reader<'a>
     ensures { (result.words ≡ r.entry.words) × (result.at ≡ at) }
 {
-    Reader { words: r.words, at }
+    Reader { at, ..r }
 }
 
 // The same from plain words: who calls this needs to know nothing of a reader.
-pub fn word_at(ws: &[u32], at: usize) -> Step
+pub fn word_at(ws: &[u32], at: usize) -> Option<u32>
     ensures { (result ≡ step_at ws.now at) × (step_number result ≡ pick (ltb at (length ws.now)) 0 1) }
 {
     next(moved(new(ws), at))

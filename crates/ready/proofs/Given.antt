@@ -1,4 +1,5 @@
 -- A function that no refusal from 1 to 7 hits is ready, and what is ready fits the walk that gives places.
+use Rattle.std.specs.Prelude.{Ok}
 use Prim.Native.Nat.{ℕ, ◌+◌, ◌≤◌, ◌<◌}
 use mathlib.Core.List.{List}
 use mathlib.Core.Logic.{⊎_elim}
@@ -13,7 +14,6 @@ use Rattle.input.specs.Forms.{term_forms, term_form}
 use Rattle.input.proofs.Words.{Head, words_head, words_block, BlockFits, block-says, edges-switch, edges_other}
 use Rattle.shape.specs.Shape.{row_shape}
 use Rattle.fit.specs.Keys.{row_keys}
-use Rattle.judge.specs.declared.Verdict.TheVariants.{Fit}
 use Rattle.judge.specs.Judged.{unfit}
 use Rattle.judge.proofs.Few.{counts-given}
 use Rattle.judge.proofs.Shapes.{InShape, shape_given, rows-placed}
@@ -60,7 +60,7 @@ module _ (ws : List ℕ) (b : ℕ) (f : BlockFits ws b) where
 
 module _ (n : ℕ) (most : n ≤ 64) (ws functions : List ℕ) (word : pool_from ws < 4294967296) (none : unfit n ws functions ≡ 0) where
   all : AllPass n ws functions
-  all = fit-given n ws functions Fit (sym none) refl
+  all = fit-given n ws functions (Ok tt) (sym none) refl
 
   tables : Small ws
   tables = small ws (words_head ws all.words) word

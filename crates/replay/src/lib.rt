@@ -3,10 +3,10 @@
 // everywhere behind them.
 #![tactic(auto)]
 
-ghost use Rattle.std.specs.Prelude.{◌≡◌, ◌<◌, ◌≤◌, ◌+◌, min, length, get_or, eqb};
+ghost use Rattle.std.specs.Prelude.{◌≡◌, ◌<◌, ◌≤◌, ◌+◌, Bool, List, ℕ, length, get_or, eqb};
 ghost use Rattle.std.proofs.lemmas.List.Edits.{sets};
 ghost use Rattle.base.specs.Choice.{pick};
-ghost use Rattle.replay.specs.Words.{word_at, wide_at, word_in, wide_in, entries, alike, listed, narrow_list, wide_list, narrow_entry, wide_entry};
+ghost use Rattle.replay.specs.Words.{word_at, wide_at, word_in, wide_in, entries, alike_by, listed, list_by, entry_by};
 
 // The numbers of standard input and output.
 const STDIN_FILENO: i32 = 0;
@@ -72,171 +72,150 @@ pub fn wide_in(bytes: &[u8], at: usize, i: usize) -> u64
     wide(bytes, at + 2 * i)
 }
 
-// The first n entries of a list, as the first words of a buffer.
-pub fn load32(bytes: &[u8], at: usize, to: &mut [u32], n: usize)
-    ensures { to.new ≡ sets to.old 0 (entries (word_in bytes.now at) 0 n) }
-{
-    let mut i = 0;
-    while i < n {
-        base::set32(to, i, word_in(bytes, at, i));
-        i += 1;
-    }
+// An entry of a list: a word, or two words as one number, low half first.
+pub trait Entry: Copy {
+    ghost read: { List ℕ → ℕ → ℕ → Self };
+
+    ghost of: { ℕ → Self };
+
+    ghost same: { Self → Self → Bool };
+
+    // Entry i of a list that starts at word `at`.
+    fn read(bytes: &[u8], at: usize, i: usize) -> Self
+        ensures { result ≡ read bytes.now at i };
+
+    fn of(word: u32) -> Self
+        ensures { result ≡ of word };
+
+    fn same(self, other: Self) -> bool
+        ensures { result ≡ same self other };
 }
 
-pub fn load64(bytes: &[u8], at: usize, to: &mut [u64], n: usize)
-    ensures { to.new ≡ sets to.old 0 (entries (wide_in bytes.now at) 0 n) }
-{
-    let mut i = 0;
-    while i < n {
-        base::set64(to, i, wide_in(bytes, at, i));
-        i += 1;
-    }
-}
+impl Entry for u32 {
+    ghost read = { word_in };
 
-// What should stand at i of a buffer: the list up to `used`, then the same word everywhere.
-fn want32(bytes: &[u8], at: usize, used: usize, rest: u32, i: usize) -> u32
-    ensures { result ≡ listed (word_in bytes.now at) used rest i }
-{
-    if i < used {
+    ghost of = { λ word. word };
+
+    ghost same = { eqb };
+
+    fn read(bytes: &[u8], at: usize, i: usize) -> u32 {
         word_in(bytes, at, i)
-    } else {
-        rest
+    }
+
+    fn of(word: u32) -> u32 {
+        word
+    }
+
+    fn same(self, other: u32) -> bool {
+        self == other
     }
 }
 
-fn want64(bytes: &[u8], at: usize, used: usize, rest: u64, i: usize) -> u64
-    ensures { result ≡ listed (wide_in bytes.now at) used rest i }
+impl Entry for u64 {
+    ghost read = { wide_in };
+
+    ghost of = { λ word. word };
+
+    ghost same = { eqb };
+
+    fn read(bytes: &[u8], at: usize, i: usize) -> u64 {
+        wide_in(bytes, at, i)
+    }
+
+    fn of(word: u32) -> u64 {
+        word as u64
+    }
+
+    fn same(self, other: u64) -> bool {
+        self == other
+    }
+}
+
+// The first n entries of a list, as the first of a buffer.
+pub fn load<T: Entry>(bytes: &[u8], at: usize, to: &mut [T], n: usize)
+    ensures { to.new ≡ sets to.old 0 (entries (T.read bytes.now at) 0 n) }
+{
+    for i in 0..n {
+        base::set(to, i, T::read(bytes, at, i));
+    }
+}
+
+// What should stand at i of a buffer: the list up to `used`, then the same entry everywhere.
+fn want<T: Entry>(bytes: &[u8], at: usize, used: usize, rest: T, i: usize) -> T
+    ensures { result ≡ listed (T.read bytes.now at) used rest i }
 {
     if i < used {
-        wide_in(bytes, at, i)
+        T::read(bytes, at, i)
     } else {
         rest
     }
 }
 
-// Are the first n words of a buffer so?
-pub fn right32(bytes: &[u8], at: usize, used: usize, rest: u32, a: &[u32], n: usize) -> bool
-    ensures { result ≡ alike (listed (word_in bytes.now at) used rest) a.now 0 n }
+// Are the first n of a buffer so?
+pub fn right<T: Entry>(bytes: &[u8], at: usize, used: usize, rest: T, a: &[T], n: usize) -> bool
+    ensures { result ≡ alike_by T.same (T.of 0) (listed (T.read bytes.now at) used rest) a.now 0 n }
 {
-    let mut i = 0;
-    while i < n {
-        if base::get32(a, i) != want32(bytes, at, used, rest, i) {
+    let none = T::of(0);
+    for i in 0..n {
+        if !base::get_or(a, i, none).same(want(bytes, at, used, rest, i)) {
             return false;
         }
-        i += 1;
     }
     true
 }
 
-pub fn right64(bytes: &[u8], at: usize, used: usize, rest: u64, a: &[u64], n: usize) -> bool
-    ensures { result ≡ alike (listed (wide_in bytes.now at) used rest) a.now 0 n }
+// Are the first n of two buffers the same?
+pub fn equal<T: Entry>(a: &[T], b: &[T], n: usize) -> bool
+    ensures { result ≡ alike_by T.same (T.of 0) (λ i. get_or b.now i (T.of 0)) a.now 0 n }
 {
-    let mut i = 0;
-    while i < n {
-        if base::get64(a, i) != want64(bytes, at, used, rest, i) {
+    let none = T::of(0);
+    for i in 0..n {
+        if !base::get_or(a, i, none).same(base::get_or(b, i, none)) {
             return false;
         }
-        i += 1;
     }
     true
 }
 
-// Are the first n words of two buffers the same?
-pub fn same32(a: &[u32], b: &[u32], n: usize) -> bool
-    ensures { result ≡ alike (λ i. get_or b.now i 0) a.now 0 n }
+// Are the first n zero?
+pub fn zeros<T: Entry>(a: &[T], n: usize) -> bool
+    ensures { result ≡ alike_by T.same (T.of 0) (λ i. T.of 0) a.now 0 n }
 {
-    let mut i = 0;
-    while i < n {
-        if base::get32(a, i) != base::get32(b, i) {
+    let none = T::of(0);
+    for i in 0..n {
+        if !base::get_or(a, i, none).same(none) {
             return false;
         }
-        i += 1;
     }
     true
 }
 
-pub fn same64(a: &[u64], b: &[u64], n: usize) -> bool
-    ensures { result ≡ alike (λ i. get_or b.now i 0) a.now 0 n }
-{
-    let mut i = 0;
-    while i < n {
-        if base::get64(a, i) != base::get64(b, i) {
-            return false;
-        }
-        i += 1;
-    }
-    true
-}
-
-// Are the first n words zero?
-pub fn zeros32(a: &[u32], n: usize) -> bool
-    ensures { result ≡ alike (λ i. 0) a.now 0 n }
-{
-    let mut i = 0;
-    while i < n {
-        if base::get32(a, i) != 0 {
-            return false;
-        }
-        i += 1;
-    }
-    true
-}
-
-pub fn zeros64(a: &[u64], n: usize) -> bool
-    ensures { result ≡ alike (λ i. 0) a.now 0 n }
-{
-    let mut i = 0;
-    while i < n {
-        if base::get64(a, i) != 0 {
-            return false;
-        }
-        i += 1;
-    }
-    true
-}
-
-// The list that a row has at k, as the first words of a buffer.
-pub fn put32(text: &[u8], row: usize, k: usize, to: &mut [u32])
+// The list that a row has at k, as the first of a buffer.
+pub fn put<T: Entry>(text: &[u8], row: usize, k: usize, to: &mut [T])
     requires { k ≤ 1000 }
-    ensures { to.new ≡ sets to.old 0 (narrow_list text.now row k) }
+    ensures { to.new ≡ sets to.old 0 (list_by T.read text.now row k) }
 {
     let at = word_in(text, row, k) as usize;
     let n = word_in(text, row, k + 1) as usize;
-    load32(text, at, to, n);
+    load(text, at, to, n);
 }
 
-pub fn put64(text: &[u8], row: usize, k: usize, to: &mut [u64])
+// 0 where the first n of a buffer are the list that a row has at k, and behind it the entry that should stand there; else the mark.
+pub fn wrong_list<T: Entry>(
+    text: &[u8],
+    row: usize,
+    k: usize,
+    a: &[T],
+    n: usize,
+    mark: usize,
+) -> usize
     requires { k ≤ 1000 }
-    ensures { to.new ≡ sets to.old 0 (wide_list text.now row k) }
-{
-    let at = word_in(text, row, k) as usize;
-    let n = word_in(text, row, k + 1) as usize;
-    load64(text, at, to, n);
-}
-
-// 0 where the first n words of a buffer are the list that a row has at k, and behind it the entry that should stand there; else the mark.
-pub fn wrong32(text: &[u8], row: usize, k: usize, a: &[u32], n: usize, mark: usize) -> usize
-    requires { k ≤ 1000 }
-    ensures { result ≡ pick (alike (narrow_entry text.now row k) a.now 0 n) 0 mark }
-{
-    let at = word_in(text, row, k) as usize;
-    let used = word_in(text, row, k + 1) as usize;
-    let rest = word_in(text, row, k + 2);
-    if right32(text, at, used, rest, a, n) {
-        0
-    } else {
-        mark
-    }
-}
-
-pub fn wrong64(text: &[u8], row: usize, k: usize, a: &[u64], n: usize, mark: usize) -> usize
-    requires { k ≤ 1000 }
-    ensures { result ≡ pick (alike (wide_entry text.now row k) a.now 0 n) 0 mark }
+    ensures { result ≡ pick (alike_by T.same (T.of 0) (entry_by T.read T.of text.now row k) a.now 0 n) 0 mark }
 {
     let at = word_in(text, row, k) as usize;
     let used = word_in(text, row, k + 1) as usize;
-    let rest = word_in(text, row, k + 2) as u64;
-    if right64(text, at, used, rest, a, n) {
+    let rest = T::of(word_in(text, row, k + 2));
+    if right(text, at, used, rest, a, n) {
         0
     } else {
         mark
@@ -252,13 +231,6 @@ pub fn wrong(text: &[u8], row: usize, k: usize, x: u64, mark: usize) -> usize
     } else {
         mark
     }
-}
-
-// A part is never longer than its buffer.
-pub fn least(n: usize, m: usize) -> usize
-    ensures { result ≡ min n m }
-{
-    if n < m { n } else { m }
 }
 
 // The next bytes of standard input, as many as the buffer has: are they there?

@@ -1,5 +1,5 @@
 -- Loops over numbers of the pool and over blocks: what is left decides, and the sum of a loop over blocks.
-use mathlib.Core.Path.{◌≡◌, refl, sym, ◌∙◌}
+use mathlib.Core.Path.{◌≡◌, refl, ◌∙◌}
 use mathlib.Core.Bool.{Bool, true, false, not}
 use mathlib.Core.List.{List}
 use Prim.Native.Nat.{ℕ, zero, suc, ◌+◌, ◌-◌, ◌*◌, ◌≤◌, ◌<◌}
@@ -9,7 +9,6 @@ use Rattle.base.specs.Choice.{pick}
 use Rattle.input.specs.Layout.{pool_at, list_at}
 use Rattle.input.specs.Records.{is_live, instr_count}
 use Rattle.input.specs.Forms.{each}
-use Rattle.input.proofs.Each.{Left}
 use Rattle.shape.specs.Counts.{row_count}
 use Rattle.shape.specs.Shape.{value_in, values_in, none_live}
 
@@ -25,26 +24,22 @@ list_each ws at j (suc n) =
     let e : at + j + 1 ≡ at + (j + 1) = omega arith in
     rw (e, list_each ws at (j + 1) n)
 
-pub left_list : (ws : List ℕ) (at n : ℕ) → Left (number_ok ws at) 0 n (values_in ws (list_at ws at n))
-left_list ws at n =
-    let d : n - 0 ≡ n = omega arith in
+pub list_tests : (ws : List ℕ) (at n : ℕ) → values_in ws (list_at ws at n) ≡ each (number_ok ws at) 0 n
+list_tests ws at n =
     let z : at + 0 ≡ at = omega arith in
-    record { is = rw d (sym (list_each ws at 0 n) ∙ rw z) }
+    rw z at (list_each ws at 0 n)
 
 -- No live block: each is a tombstone.
 abbrev pub dead : List ℕ → ℕ → Bool
 dead ws b = not (is_live ws b)
 
-none_each : (ws : List ℕ) (b n : ℕ) → none_live ws b n ≡ each (dead ws) b n
+pub none_each : (ws : List ℕ) (b n : ℕ) → none_live ws b n ≡ each (dead ws) b n
 unfolding none_live each
 none_each ws b zero = refl
 none_each ws b (suc n) = rw (none_each ws (b + 1) n) (turned (is_live ws b) _) where
   turned : (t r : Bool) → pick t false r ≡ pick (not t) r false
   turned true r = refl
   turned false r = refl
-
-pub left-blocks : (ws : List ℕ) (b : ℕ) {end n : ℕ} → end ≡ n → Left (dead ws) b end (none_live ws b (n - b))
-left-blocks ws b e = record { is = rw e (sym (none_each ws b _)) }
 
 -- Rows so far, and those from b on, are all rows; each block has at most 4,294,967,297.
 pub record Rows (ws : List ℕ) (b end rows all : ℕ) : Type 0 where

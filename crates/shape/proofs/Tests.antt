@@ -4,11 +4,6 @@ use mathlib.Core.Bool.{Bool, true, false, not, ◌&&◌, ◌||◌}
 use Rattle.base.specs.Choice.{pick}
 use Rattle.input.specs.Forms.{both}
 
--- both tests
-pub and_both : (p q : Bool) → (p && q) ≡ both p q
-and_both true q = refl
-and_both false q = refl
-
 -- the second where the first holds
 pub or_where : (p q : Bool) → (not p || q) ≡ pick p q true
 or_where true q = refl

@@ -11,6 +11,8 @@ ghost use Rattle.input.specs.Forms.{both, each};
 ghost use Rattle.shape.specs.Counts.{row_count, cases_ok, block_counts, instr_counts, counts_ok};
 ghost use Rattle.shape.specs.Shape.{list_in, cast_ok, none_live, may_lack, edge_shape, params_shape, instr_shape, term_shape};
 
+use input::kinds;
+
 // The most of each thing: specs/Limits.antt of crate base.
 const MOST_VALUES: u32 = 4096;
 
@@ -21,30 +23,6 @@ const MOST_ROWS: u64 = 16384;
 const MOST_PARAMETERS: u32 = 190;
 
 const MOST_CASES: u32 = 1024;
-
-// Kinds of terminator.
-const NO_TERM: u32 = 0;
-
-const BRANCH_CMP_IMM: u32 = 4;
-
-const BRANCH_CMP: u32 = 5;
-
-const TAIL: u32 = 6;
-
-const SWITCH: u32 = 7;
-
-// Kinds of instruction.
-const BIN_IMM: u32 = 1;
-
-const LOAD_CONST: u32 = 2;
-
-const CALL: u32 = 3;
-
-const SYS: u32 = 4;
-
-const CAST: u32 = 5;
-
-const LOOKUP: u32 = 11;
 
 // Arguments go in the registers of the pool.
 fn most_arguments() -> u32
@@ -77,8 +55,8 @@ fn block_counts(ws: &[u32], b: u32) -> bool
 {
     let kind = input::block_field(ws, b, 6);
     (input::block_field(ws, b, 3) <= most_parameters(b))
-        & ((kind != TAIL) | (input::block_field(ws, b, 9) <= most_arguments()))
-        & ((kind != SWITCH) | cases_ok(input::block_field(ws, b, 13)))
+        & ((kind != kinds::term::TAIL) | (input::block_field(ws, b, 9) <= most_arguments()))
+        & ((kind != kinds::term::SWITCH) | cases_ok(input::block_field(ws, b, 13)))
 }
 
 // The arguments of a Call or Sys, the entries of a Lookup.
@@ -87,39 +65,9 @@ fn instr_counts(ws: &[u32], i: u32) -> bool
 {
     let kind = input::instr_field(ws, i, 0);
     let few = input::instr_field(ws, i, 4) <= most_arguments();
-    ((kind != CALL) | few)
-        & ((kind != SYS) | few)
-        & ((kind != LOOKUP) | cases_ok(input::instr_field(ws, i, 6)))
-}
-
-// Tombstones too: 2 is judged of every record.
-fn blocks_counts(ws: &[u32]) -> bool
-    ensures { result ≡ each (block_counts registers ws.now) 0 (blocks ws.now) }
-{
-    let end = input::head_field(ws, 4);
-    let mut b = 0;
-    while b < end {
-        if !block_counts(ws, b) {
-            return false;
-        }
-        b += 1;
-    }
-    true
-}
-
-// Those of no block too.
-fn instrs_counts(ws: &[u32]) -> bool
-    ensures { result ≡ each (instr_counts registers ws.now) 0 (instructions ws.now) }
-{
-    let end = input::head_field(ws, 5);
-    let mut i = 0;
-    while i < end {
-        if !instr_counts(ws, i) {
-            return false;
-        }
-        i += 1;
-    }
-    true
+    ((kind != kinds::instr::CALL) | few)
+        & ((kind != kinds::instr::SYS) | few)
+        & ((kind != kinds::instr::LOOKUP) | cases_ok(input::instr_field(ws, i, 6)))
 }
 
 // The rows of block b: none of a tombstone.
@@ -137,27 +85,22 @@ fn block_rows(ws: &[u32], b: u32) -> u64
 fn row_count(ws: &[u32]) -> u64
     ensures { result ≡ row_count ws.now 0 (blocks ws.now) }
 {
-    let end = input::head_field(ws, 4);
-    let mut b = 0;
     let mut rows: u64 = 0;
-    while b < end {
+    for b in 0..input::head_field(ws, 4) {
         rows += block_rows(ws, b);
-        b += 1;
     }
     rows
 }
 
-// No refusal 2.
+// No refusal 2. It is judged of every record, of tombstones and of instructions of no block too.
 pub fn counts_ok(ws: &[u32]) -> bool
     ensures { result ≡ counts_ok registers ws.now }
 {
-    if MOST_VALUES < input::head_field(ws, 3) {
-        return false;
-    }
-    if MOST_BLOCKS < input::head_field(ws, 4) {
-        return false;
-    }
-    (row_count(ws) <= MOST_ROWS) & blocks_counts(ws) & instrs_counts(ws)
+    input::head_field(ws, 3) <= MOST_VALUES
+        && input::head_field(ws, 4) <= MOST_BLOCKS
+        && row_count(ws) <= MOST_ROWS
+        && (0..input::head_field(ws, 4)).all(|b| block_counts(ws, b))
+        && (0..input::head_field(ws, 5)).all(|i| instr_counts(ws, i))
 }
 
 // Does a part of a table lie within it?
@@ -171,18 +114,9 @@ fn part_in(at: u32, count: u32, most: u32) -> bool
 fn list_in(ws: &[u32], at: u32, count: u32) -> bool
     ensures { result ≡ list_in ws.now at count (list_at ws.now at count) }
 {
-    if !part_in(at, count, input::head_field(ws, 8)) {
-        return false;
-    }
     let values = input::head_field(ws, 3);
-    let mut j = 0;
-    while j < count {
-        if values <= input::pool_at(ws, at, j) {
-            return false;
-        }
-        j += 1;
-    }
-    true
+    part_in(at, count, input::head_field(ws, 8))
+        && (0..count).all(|j| input::pool_at(ws, at, j) < values)
 }
 
 // The part of a block's parameters' row in refusal 3.
@@ -204,11 +138,7 @@ pub fn params_shape(ws: &[u32], b: u32) -> bool
 fn cast_ok(to: u32, from: u32) -> bool
     ensures { result ≡ cast_ok to from }
 {
-    if from == 0 {
-        (0 < to) & (to < 3)
-    } else {
-        (from < 3) & (to == 0)
-    }
+    matches!((to, from), (1 | 2, 0) | (0, 1 | 2))
 }
 
 // The part of an instruction's row in refusal 3.
@@ -224,10 +154,10 @@ pub fn instr_shape(ws: &[u32], i: u32) -> bool
         input::instr_field(ws, i, 3),
         input::instr_field(ws, i, 4),
     ) & (input::instr_field(ws, i, 2) <= input::head_field(ws, 3))
-        & ((kind != BIN_IMM) | (x < 9))
-        & ((kind != CAST) | cast_ok(x, y))
-        & ((kind != LOAD_CONST) | (x < constants))
-        & ((kind != LOOKUP) | ((x as u64) + 2 * (y as u64) + 1 <= (constants as u64)))
+        & ((kind != kinds::instr::BIN_IMM) | (x < 9))
+        & ((kind != kinds::instr::CAST) | cast_ok(x, y))
+        & ((kind != kinds::instr::LOAD_CONST) | (x < constants))
+        & ((kind != kinds::instr::LOOKUP) | ((x as u64) + 2 * (y as u64) + 1 <= (constants as u64)))
 }
 
 // The arguments are read last, when there are no more of them than the block has parameters.
@@ -235,65 +165,34 @@ fn edge_shape(ws: &[u32], e: u32) -> bool
     ensures { result ≡ edge_shape ws.now e }
 {
     let target = input::edge_field(ws, e, 0);
-    if input::head_field(ws, 4) <= target {
-        return false;
-    }
-    if input::block_field(ws, target, 1) != 0 {
-        return false;
-    }
     let count = input::edge_field(ws, e, 2);
-    let wanted = input::block_field(ws, target, 3);
-    if count == wanted {
-        list_in(ws, input::edge_field(ws, e, 1), count)
-    } else {
-        false
-    }
+    target < input::head_field(ws, 4)
+        && input::block_field(ws, target, 1) == 0
+        && count == input::block_field(ws, target, 3)
+        && list_in(ws, input::edge_field(ws, e, 1), count)
 }
 
 // Are these edges there, and each of them in shape?
 fn edges_in(ws: &[u32], first: u32, count: u32) -> bool
     ensures { result ≡ both (leb (first + count) (edges ws.now)) (each (edge_shape ws.now) first count) }
 {
-    if !part_in(first, count, input::head_field(ws, 6)) {
-        return false;
-    }
-    let end = first + count;
-    let mut e = first;
-    while e < end {
-        if !edge_shape(ws, e) {
-            return false;
-        }
-        e += 1;
-    }
-    true
+    part_in(first, count, input::head_field(ws, 6))
+        && (first..first + count).all(|e| edge_shape(ws, e))
 }
 
 // Is no block live from `from` on?
 fn none_live(ws: &[u32], from: u64) -> bool
     ensures { result ≡ none_live ws.now from (blocks ws.now - from) }
 {
-    let end = input::head_field(ws, 4) as u64;
-    let mut b = from;
-    while b < end {
-        if input::block_field(ws, b as u32, 1) == 0 {
-            return false;
-        }
-        b += 1;
-    }
-    true
+    (from..input::head_field(ws, 4) as u64).all(|b| input::block_field(ws, b as u32, 1) != 0)
 }
 
 // Has block b a terminator, or may it lack one?
 fn has_end(ws: &[u32], b: u32) -> bool
     ensures { result ≡ pick (eqb (term_kind ws.now b) no_term) (may_lack ws.now b) true }
 {
-    if input::block_field(ws, b, 6) != NO_TERM {
-        return true;
-    }
-    if input::head_field(ws, 0) != 0 {
-        return false;
-    }
-    none_live(ws, (b as u64) + 1)
+    input::block_field(ws, b, 6) != kinds::term::NONE
+        || (input::head_field(ws, 0) == 0 && none_live(ws, (b as u64) + 1))
 }
 
 // The part of a terminator's row in refusal 3.
@@ -314,7 +213,7 @@ pub fn term_shape(ws: &[u32], b: u32) -> bool
             input::block_field(ws, b, 10),
             input::block_field(ws, b, 11),
         )
-        & ((kind != BRANCH_CMP_IMM) | (x == 8))
-        & ((kind != BRANCH_CMP) | (x == 16))
-        & ((kind != SWITCH) | part_in(x, cases, input::head_field(ws, 7)))
+        & ((kind != kinds::term::BRANCH_CMP_IMM) | (x == 8))
+        & ((kind != kinds::term::BRANCH_CMP) | (x == 16))
+        & ((kind != kinds::term::SWITCH) | part_in(x, cases, input::head_field(ws, 7)))
 }

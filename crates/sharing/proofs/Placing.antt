@@ -9,22 +9,16 @@ use lib.Dec.{leb, ltb, eqb}
 use lib.ListN.{length, get_or, set}
 use lib.Seq.{set_out, get_or-set_same, get_or-set_other}
 use borrow.Author.Tests.{eqb-true, leb-false}
+use Rattle.std.specs.Prelude.{Option, Some, None}
 use Rattle.base.proofs.Numbers.{pick-both, pick_case, lt?}
 use Rattle.place.specs.declared.Reg.{Reg}
 use Rattle.place.specs.declared.Reg.TheVariants.{Gpr, Fpr}
 use Rattle.place.specs.declared.Place.{Place}
 use Rattle.place.specs.declared.Place.TheVariants.{Slot, Register}
-use Rattle.place.specs.declared.Found.TheVariants as found
 use Rattle.place.specs.Places.{reg_of, number_of, place_of, word_of, found_of, Fits}
 use Rattle.place.proofs.Places.{found_none, place-number}
 use Rattle.alloc.specs.declared.Entry.{Entry}
 use Rattle.alloc.specs.declared.Alloc.{Alloc}
-use Rattle.alloc.specs.declared.Ready.{Ready}
-use Rattle.alloc.specs.declared.Ready.TheVariants as ready
-use Rattle.alloc.specs.declared.Hint.{Hint}
-use Rattle.alloc.specs.declared.Hint.TheVariants as hint
-use Rattle.alloc.specs.declared.Got.{Got}
-use Rattle.alloc.specs.declared.Got.TheVariants as got
 use Rattle.alloc.specs.declared.Taken.{Taken}
 use Rattle.alloc.specs.State.{most_slots, live}
 use Rattle.alloc.specs.Allocation.{kept_of, expire_of, is_free, take_reg, last_free, take_slot, from_pool, hinted, take_of, enter, new_place, map_entered, pin_of}
@@ -51,24 +45,24 @@ reg_made : (r : Reg) (s : Alloc) → (take_reg r s).made ≡ s.made
 unfolding take_reg
 reg_made r s = refl
 
-pool_made : (class : ℕ) (f : Ready) (s : Alloc) → s.made ≤ (from_pool class f s).state.made
+pool_made : (class : ℕ) (f : Option ℕ) (s : Alloc) → s.made ≤ (from_pool class f s).state.made
 unfolding from_pool
-pool_made class (ready.At r) s = omega (arith, reg_made (reg_of class r) s)
-pool_made class ready.Nothing s = slot_made s
+pool_made class (Some r) s = omega (arith, reg_made (reg_of class r) s)
+pool_made class None s = slot_made s
 
-take_made : (class : ℕ) (h : Hint) (pool : List ℕ) (s : Alloc) → s.made ≤ (take_of class h pool s).state.made
+take_made : (class : ℕ) (h : Option Reg) (pool : List ℕ) (s : Alloc) → s.made ≤ (take_of class h pool s).state.made
 unfolding take_of
-take_made class hint.Nowhere pool s = pool_made class (last_free (get_or s.free class 0) pool) s
-take_made class (hint.At r) pool s =
+take_made class None pool s = pool_made class (last_free (get_or s.free class 0) pool) s
+take_made class (Some r) pool s =
     pick-both (λ (t : Taken). s.made ≤ t.state.made) (hinted class r s) _ _ (omega (arith, reg_made r s))
     (pool_made class (last_free (get_or s.free class 0) pool) s)
 
-enter_made : (end : ℕ) (before s : Alloc) (x : Got) → before.made ≤ s.made → before.made ≤ (enter end before s x).state.made
+enter_made : (end : ℕ) (before s : Alloc) (x : Option Place) → before.made ≤ s.made → before.made ≤ (enter end before s x).state.made
 unfolding enter
-enter_made end before s (got.At p) h = h
-enter_made end before s got.NoSlot h = omega arith
+enter_made end before s (Some p) h = h
+enter_made end before s None h = omega arith
 
-pub new_made : (class at end : ℕ) (h : Hint) (pool : List ℕ) (s : Alloc) → s.made ≤ (new_place class at end h pool s).state.made
+pub new_made : (class at end : ℕ) (h : Option Reg) (pool : List ℕ) (s : Alloc) → s.made ≤ (new_place class at end h pool s).state.made
 unfolding new_place
 new_made class at end h pool s =
     let x : Alloc = expire_of at s in
@@ -82,7 +76,7 @@ pin_made r end s = pick-both (λ (t : Alloc). s.made ≤ t.made) (is_free r s) _
 -- ---- what became of value v at row r, one way or the other
 pub record Came (at v end : ℕ) (p : Place) (w w' : Walk) : Type 0 where
   pub entry : Entered at end p w.alloc w'.alloc
-  pub map : w'.map ≡ set w.map v (word_of (found.At p))
+  pub map : w'.map ≡ set w.map v (word_of (Some p))
 
 pub record Placed (at v end : ℕ) (w w' : Walk) : Type 0 where
   pub good : Good w'.alloc
@@ -90,18 +84,18 @@ pub record Placed (at v end : ℕ) (w w' : Walk) : Type 0 where
   pub made : w.alloc.made ≤ w'.alloc.made
   pub came : ((w'.alloc ≡ w.alloc) × (w'.map ≡ w.map)) ⊎ ((p : Place) × Came at v end p w w')
 
-new_came : (at v end : ℕ) (w : Walk) (s' : Alloc) (x : Got) → Outcome at end w.alloc s' x
+new_came : (at v end : ℕ) (w : Walk) (s' : Alloc) (x : Option Place) → Outcome at end w.alloc s' x
     → ((s' ≡ w.alloc) × (map_entered w.map v x ≡ w.map))
     ⊎ ((p : Place) × Came at v end p w (walk s' (map_entered w.map v x) w.wish w.noted))
 unfolding map_entered
-new_came at v end w s' (got.At p) o = inr (p, record { entry = o; map = refl })
-new_came at v end w s' got.NoSlot o = inl (o, refl)
+new_came at v end w s' (Some p) o = inr (p, record { entry = o; map = refl })
+new_came at v end w s' None o = inl (o, refl)
 
 pub place-placed : (ws pool : List ℕ) (r v : ℕ) (w : Walk) → Good w.alloc → word w v ≡ 0 → Placed r v (end_of ws v) w (place_step ws pool r v w)
 unfolding place_step
 place-placed ws pool r v w g z =
-    let e : found_of (word w v) ≡ found.Nowhere = found_none (word w v) z in
-    let h : Hint = wish_of w v in
+    let e : found_of (word w v) ≡ None = found_none (word w v) z in
+    let h : Option Reg = wish_of w v in
     let t : Taken = new_place 0 r (end_of ws v) h pool w.alloc in
     rw (place_none w.map v 0 r (end_of ws v) h pool w.alloc e, map_none w.map v 0 r (end_of ws v) h pool w.alloc e)
     (record {
@@ -138,7 +132,7 @@ Has w v = word w v ≡ 0 → ⊥
 abbrev pub sits : ℕ → Place
 sits x = place_of (x - 1)
 
-pub word-sits : (p : Place) → Fits p → sits (word_of (found.At p)) ≡ p
+pub word-sits : (p : Place) → Fits p → sits (word_of (Some p)) ≡ p
 word-sits p h = let e : 1 + number_of p - 1 ≡ number_of p = omega arith in ap place_of e ∙ place-number p h
 
 equal : (a b : ℕ) (t : Bool) → eqb a b ≡ t → 0 < bit t → a ≡ b
@@ -164,7 +158,7 @@ kept_one q t end p h =
 -- the place that v has now: none that lasts past the row had it
 pub record Home (at v end : ℕ) (w w' : Walk) : Type 0 where
   pub place : Place
-  pub is : word w' v ≡ word_of (found.At place)
+  pub is : word w' v ≡ word_of (Some place)
   pub fits : Fits place
   pub alone : occurs place (kept_of at (live w.alloc)) ≡ 0
   pub held : (t : ℕ) → at ≤ t → t < end → 0 < occurs place (kept_of t (live w'.alloc))
@@ -177,7 +171,7 @@ pub record Change (at v end : ℕ) (w w' : Walk) : Type 0 where
   pub lasts : (t : ℕ) → at ≤ t → (q : Place) → occurs q (kept_of t (live w.alloc)) ≤ occurs q (kept_of t (live w'.alloc))
   pub mine : Has w' v → Home at v end w w'
   pub whose : (t : ℕ) → at ≤ t → (q : Place) → 0 < occurs q (kept_of t (live w'.alloc))
-      → (0 < occurs q (kept_of t (live w.alloc))) ⊎ ((t < end) × (Has w' v → word w' v ≡ word_of (found.At q)))
+      → (0 < occurs q (kept_of t (live w.alloc))) ⊎ ((t < end) × (Has w' v → word w' v ≡ word_of (Some q)))
 
 module _ (at v end : ℕ) (w w' : Walk) (z : word w v ≡ 0) (o : Placed at v end w w') where
   stayed : (w'.alloc ≡ w.alloc) × (w'.map ≡ w.map) → Change at v end w w'
@@ -200,11 +194,11 @@ module _ (at v end : ℕ) (w w' : Walk) (z : word w v ≡ 0) (o : Placed at v en
     one t l = rw (kept_last t (entry end p) l) (omega (arith, same_self p, occurs_one p (entry end p)))
 
     -- an id past the map's end has no word still
-    there : Has w' v → word w' v ≡ word_of (found.At p)
+    there : Has w' v → word w' v ≡ word_of (Some p)
     there h =
         ⊎_elim
-        (λ (l : v < length w.map). rw c.map (get_or-set_same w.map v (word_of (found.At p)) 0 l))
-        (λ (l : length w.map ≤ v). absurd (h (rw (c.map, set_out w.map v (word_of (found.At p)) l) z)))
+        (λ (l : v < length w.map). rw c.map (get_or-set_same w.map v (word_of (Some p)) 0 l))
+        (λ (l : length w.map ≤ v). absurd (h (rw (c.map, set_out w.map v (word_of (Some p)) l) z)))
         (lt? v (length w.map))
 
     came : Change at v end w w'
@@ -213,7 +207,7 @@ module _ (at v end : ℕ) (w w' : Walk) (z : word w v ≡ 0) (o : Placed at v en
           good = o.good;
           regs = o.regs;
           made = o.made;
-          other = λ u ne. rw c.map (get_or-set_other w.map v u (word_of (found.At p)) 0 ne);
+          other = λ u ne. rw c.map (get_or-set_other w.map v u (word_of (Some p)) 0 ne);
           lasts = λ t l q. omega (arith, count t l q);
           mine = λ h.
               record {
@@ -228,7 +222,7 @@ module _ (at v end : ℕ) (w w' : Walk) (z : word w v ≡ 0) (o : Placed at v en
               (λ (k : 0 < occurs q (kept_of t (live w.alloc))). inl k)
               (λ (k : occurs q (kept_of t (live w.alloc)) ≤ 0).
               let m : (t < end) × (q ≡ p) = kept_one q t end p (omega (arith, count t l q)) in
-              inr (m.0, λ g. there g ∙ ap (λ (x : Place). word_of (found.At x)) (sym m.1)))
+              inr (m.0, λ g. there g ∙ ap (λ (x : Place). word_of (Some x)) (sym m.1)))
               (lt? 0 (occurs q (kept_of t (live w.alloc))));
         }
 

@@ -6,11 +6,11 @@ use mathlib.Core.List.{List, [], ◌∷◌, ◌++◌}
 use mathlib.Core.Logic.{⊎_elim}
 use mathlib.Core.Path.{◌≡◌, refl, sym, ap, ◌∙◌, subst}
 use native.Mathlib.Omega.{arith}
+use Rattle.std.specs.Prelude.{Some}
 use Rattle.place.specs.declared.Reg.{Reg}
 use Rattle.place.specs.declared.Reg.TheVariants.{Gpr, Fpr}
 use Rattle.place.specs.declared.Place.{Place}
 use Rattle.place.specs.declared.Place.TheVariants.{Slot, Register}
-use Rattle.place.specs.declared.Found.TheVariants as found
 use Rattle.place.specs.Places.{word_of}
 use Rattle.alloc.specs.State.{live}
 use Rattle.alloc.specs.Allocation.{kept_of}
@@ -38,7 +38,7 @@ pub record Owner (ws : List ℕ) (done : List Ref) (w : Walk) (t : ℕ) (p : Pla
   pub value : ℕ
   pub did : Did row value done
   pub until : t < end_of ws value
-  pub there : Has w value → word w value ≡ word_of (found.At p)
+  pub there : Has w value → word w value ≡ word_of (Some p)
 
 pub record Safe (n : ℕ) (ws : List ℕ) (clock : ℕ) (done : List Ref) (w : Walk) : Type 0 where
   pub good : Good w.alloc
@@ -63,7 +63,7 @@ later n ws clock clock' done w l s =
     }
 
 -- ---- words of places
-pub housed_place : (n made : ℕ) (p : Place) → Known made p → ((q : Reg) → p ≡ Register q → OfPool n q) → Housed n made (word_of (found.At p))
+pub housed_place : (n made : ℕ) (p : Place) → Known made p → ((q : Reg) → p ≡ Register q → OfPool n q) → Housed n made (word_of (Some p))
 housed_place n made (Slot k) h f = let e : 257 + k ≡ 1 + (256 + k) = omega arith in subst (Housed n made) e (in-slot k h)
 housed_place n made (Register (Gpr r)) h f = in-register r (f (Gpr r) refl)
 housed_place n made (Register (Fpr r)) h f = absurd (f (Fpr r) refl)

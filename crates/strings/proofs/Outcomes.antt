@@ -1,24 +1,28 @@
 -- What comes back, by the tests that led there.
-use mathlib.Core.Path.{◌≡◌, sym, ap, ◌∙◌}
-use mathlib.Core.Logic.{◌≢◌}
-use mathlib.Core.Bool.{true, false}
+use Rattle.std.specs.Prelude.{Some, None, Ok, Err}
+use mathlib.Core.Path.{◌≡◌, refl, sym, ap, ◌∙◌}
+use mathlib.Core.Logic.{⊎_elim}
+use mathlib.Core.Bool.{Bool, true, false, ◌||◌}
 use mathlib.Core.List.{List}
 use Prim.Native.Nat.{ℕ, ◌*◌, ◌/◌, ◌≤◌, ◌<◌}
 use native.Mathlib.Omega.{arith}
 use borrow.Author.Tests.{leb-true, le-leb, lt-leb, ne_eqb}
-use lib.Dec.{leb}
+use lib.Dec.{leb, eqb}
 use lib.ListN.{length, take, drop}
 use lib.Seq.{sets, length-sets, length-take-le, take_at}
 use Rattle.base.specs.Limits.{most_of_a_kind}
 use Rattle.base.proofs.Lists.{sets-front}
+use Rattle.base.proofs.Numbers.{same?}
+use Rattle.refusal.specs.declared.Refusal.TheVariants.{TooMany, NoRoom}
+use Rattle.refusal.specs.Numbers.{number_of}
+use Rattle.judge.proofs.Verdicts.{some}
 use Rattle.grow.specs.declared.End.{End}
 use Rattle.grow.specs.Growing.{Grown, Grows}
 use Rattle.grow.proofs.Growing.{grown_start, grown_done, grown_full, grown_lengths}
 use Rattle.input.proofs.Chain.{both-parts}
 use Rattle.lists.specs.Lists.{room}
-use Rattle.strings.specs.declared.Strings.TheVariants.{Done, BadWord, TooMany, BadShape, NoRoom}
-use Rattle.strings.proofs.Judging.{first_most}
-use Rattle.strings.specs.Strings.{functions_in, first_unfit, all_strings, strings_after, used_ok, outcome, interned}
+use Rattle.strings.specs.declared.Unfit as declared
+use Rattle.strings.specs.Strings.{functions_in, first_unfit, all_strings, strings_after, used_ok, found, outcome, interned}
 
 -- the used length passes neither its buffer nor the most
 pub record Within (globals : List ℕ) (used : ℕ) : Type 0 where
@@ -30,34 +34,42 @@ within globals used e =
     let p = both-parts (leb (2 * used) (length globals)) (leb used most_of_a_kind) e in
     record { in_buffer = leb-true _ _ p.0; in_all = leb-true _ _ p.1 }
 
--- a first unfit function whose number is none of three is none
-pub none_unfit : (n : ℕ) (words ends : List ℕ) (x : ℕ) → x ≡ (first_unfit n 0 (functions_in words 0 ends)).number → x ≢ 1 → x ≢ 2 → x ≢ 3
-    → (first_unfit n 0 (functions_in words 0 ends)).number ≡ 0
-none_unfit n words ends x is a b c = omega (arith, first_most n 0 (functions_in words 0 ends))
+-- of two tests one passed, and neither
+other : (a b : Bool) → (a || b) ≡ true → b ≡ false → a ≡ true
+other true b h e = refl
+other false b h e = let z : ◌≡◌ {A = Bool} false true = sym e ∙ h in cc
+
+neither : (a b : Bool) → (a || b) ≡ false → (a ≡ false) × (b ≡ false)
+neither true b h = let z : ◌≡◌ {A = Bool} true false = h in cc
+neither false b h = (refl, h)
 
 module _ (n : ℕ) (words ends globals : List ℕ) (used : ℕ) where
-  module _ (x : ℕ) (is : x ≡ (first_unfit n 0 (functions_in words 0 ends)).number) where
-    -- number 1 goes before the used length
-    pub bad_word : (k : ℕ) → k ≡ (first_unfit n 0 (functions_in words 0 ends)).index → x ≡ 1
-        → outcome (BadWord k) used globals ≡ interned n words ends globals used
+  module _ (f : declared.Unfit) (is : found (Some f) ≡ first_unfit n 0 (functions_in words 0 ends)) (t : Bool) (u : t ≡ used_ok globals used) where
+    -- number 1 goes before the used length, 2 and 3 behind it
+    pub first_found : (t || eqb (number_of f.why) 1) ≡ true → outcome (Err f) used globals ≡ interned n words ends globals used
     unfolding interned
-    bad_word k j h = rw (← is, h, j)
+    first_found h =
+        ⊎_elim
+        (λ (e : number_of f.why ≡ 1). rw (← is, e))
+        (λ (e : number_of f.why ≡ 1 → ⊥).
+        let b : eqb (number_of f.why) 1 ≡ false = ne_eqb (number_of f.why) 1 e in
+        let k : used_ok globals used ≡ true = sym u ∙ other t (eqb (number_of f.why) 1) h b in
+        rw (← is, b, k, some f.why))
+        (same? (number_of f.why) 1)
 
-    -- the used length
-    pub used_wrong : x ≢ 1 → used_ok globals used ≡ false → outcome (TooMany 0) used globals ≡ interned n words ends globals used
+    pub used_wrong : (t || eqb (number_of f.why) 1) ≡ false
+        → outcome (Err (record { why = TooMany; index = 0 })) used globals ≡ interned n words ends globals used
     unfolding interned
-    used_wrong h u = rw (← is, ne_eqb x 1 h, u)
+    used_wrong h =
+        let p = neither t (eqb (number_of f.why) 1) h in
+        let k : used_ok globals used ≡ false = sym u ∙ p.0 in
+        rw (← is, p.1, k)
 
-    -- then 2 and 3
-    pub too_many : (k : ℕ) → k ≡ (first_unfit n 0 (functions_in words 0 ends)).index → used_ok globals used ≡ true → x ≡ 2
-        → outcome (TooMany k) used globals ≡ interned n words ends globals used
-    unfolding interned
-    too_many k j u h = rw (← is, h, u, j)
-
-    pub bad_shape : (k : ℕ) → k ≡ (first_unfit n 0 (functions_in words 0 ends)).index → used_ok globals used ≡ true → x ≡ 3
-        → outcome (BadShape k) used globals ≡ interned n words ends globals used
-    unfolding interned
-    bad_shape k j u h = rw (← is, h, u, j)
+  -- none is unfit
+  pub used_over : found None ≡ first_unfit n 0 (functions_in words 0 ends) → used_ok globals used ≡ false
+      → outcome (Err (record { why = TooMany; index = 0 })) used globals ≡ interned n words ends globals used
+  unfolding interned
+  used_over is u = rw (← is, u)
 
 -- the globals with the strings of fit functions, as they grow in a buffer of their own
 pub record Held (n : ℕ) (words ends globals : List ℕ) (used : ℕ) (list list' : List ℕ) (e : End) : Type 0 where
@@ -88,7 +100,7 @@ module _ {n : ℕ} {words ends globals : List ℕ} {used : ℕ} {list list' : Li
   held-within = omega (arith, h.grown.at_is, h.grown.lent, grown_lengths h.grown)
 
   -- the strings pass the room
-  pub no_room : e.full ≡ true → outcome NoRoom used globals ≡ interned n words ends globals used
+  pub no_room : e.full ≡ true → outcome (Err (record { why = NoRoom; index = 0 })) used globals ≡ interned n words ends globals used
   unfolding interned
   no_room f =
       let l : room 2 globals < length (strings_after words ends globals used) = omega (arith, grown_full h.grown f, h.room_kept) in
@@ -96,7 +108,7 @@ module _ {n : ℕ} {words ends globals : List ℕ} {used : ℕ} {list list' : Li
 
   -- they find room, and go back
   pub all_held : (globals' : List ℕ) → e.full ≡ false → globals' ≡ sets globals 0 (take e.at list')
-      → outcome (Done (e.at / 2)) used globals' ≡ interned n words ends globals used
+      → outcome (Ok (e.at / 2)) used globals' ≡ interned n words ends globals used
   unfolding interned
   all_held globals' f s =
       let d = grown_done h.grown f in

@@ -10,6 +10,9 @@ use lib.ListN.{length, get_or, take, drop, length-drop, drop_of_length-le}
 use lib.Seq.{drop-cons, take_all, take-nil}
 use Rattle.base.specs.Choice.{pick}
 use Rattle.base.proofs.Numbers.{lt?, same?}
+use Rattle.refusal.specs.declared.Refusal.{Refusal}
+use Rattle.refusal.specs.Numbers.{number_of}
+use Rattle.judge.proofs.Verdicts.{some}
 use Rattle.interning.specs.Interning.{strings_interned}
 use Rattle.strings.specs.Strings.{functions_in, is_used, unfit_string, Unfit, first_unfit, all_strings}
 
@@ -31,10 +34,6 @@ part_same l from end lo hi a b =
     (λ (k : end ≤ length l). let s : hi - lo ≡ end - from = omega arith in rw (s, e))
     (lt? (length l) end))
     (lt? (length l) from)
-
--- an answer's fields
-pub fields : {u v : Unfit} → u ≡ v → (u.number ≡ v.number) × (u.index ≡ v.index)
-fields e = (ap (λ (w : Unfit). w.number) e, ap (λ (w : Unfit). w.index) e)
 
 -- where no function is unfit the first is not
 fit-first : (n k : ℕ) (f : List ℕ) (fs : List (List ℕ)) → (first_unfit n k (f ∷ fs)).number ≡ 0 → unfit_string n f ≡ 0
@@ -68,10 +67,10 @@ module _ (words : List ℕ) (from : ℕ) (ends : List ℕ) (k : ℕ) where
     functions-turn = rw (is, add-one k, drop-cons ends k 0 h)
 
     -- it is the first that is unfit
-    pub first_found : (n x : ℕ) → x ≡ unfit_string n (take (end - from) (drop from words)) → x ≢ 0
-        → first_unfit n k (functions_in words from (drop k ends)) ≡ record { number = x; index = k }
+    pub first_found : (n : ℕ) (why : Refusal) → number_of why ≡ unfit_string n (take (end - from) (drop from words))
+        → first_unfit n k (functions_in words from (drop k ends)) ≡ record { number = number_of why; index = k }
     unfolding first_unfit
-    first_found n x e ne = rw (functions-turn, ← e, ne_eqb x 0 ne)
+    first_found n why e = rw (functions-turn, ← e, some why)
 
     -- it is fit, and the first is behind it
     pub first_on : (n : ℕ) → unfit_string n (take (end - from) (drop from words)) ≡ 0
@@ -88,7 +87,7 @@ module _ (words : List ℕ) (from : ℕ) (ends : List ℕ) (k : ℕ) where
     -- nor one behind it
     pub fit_on : (n : ℕ) → (first_unfit n k (functions_in words from (drop k ends))).number ≡ 0
         → (first_unfit n (k + 1) (functions_in words end (drop (k + 1) ends))).number ≡ 0
-    fit_on n e = sym (fields (first_on n (fit-here n e))).0 ∙ e
+    fit_on n e = sym (ap (λ (u : Unfit). u.number) (first_on n (fit-here n e))) ∙ e
 
     -- its strings, then those of the others
     pub strings_turn : (g : List ℕ) → all_strings (functions_in words from (drop k ends)) g

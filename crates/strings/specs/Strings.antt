@@ -1,7 +1,8 @@
 -- The string entry: the strings of a list of functions among the globals, before the first of them is compiled.
-use Rattle.std.specs.Prelude.{ℕ, ◌+◌, ◌*◌, ◌-◌, ◌/◌, Bool, List, [], ◌∷◌, leb, eqb, length, take, drop}
+use Rattle.std.specs.Prelude.{ℕ, ◌+◌, ◌*◌, ◌-◌, ◌/◌, Bool, List, [], ◌∷◌, Option, Some, None, Result, Ok, Err, leb, eqb, length, take, drop}
 use Rattle.std.proofs.lemmas.List.Edits.{sets}
 use Rattle.base.specs.Choice.{pick}
+use Rattle.refusal.specs.Numbers.{number_of}
 use Rattle.input.specs.Layout.{unused_mark}
 use Rattle.input.specs.Forms.{words_ok}
 use Rattle.shape.specs.Counts.{counts_ok}
@@ -9,30 +10,20 @@ use Rattle.shape.specs.Shape.{shape_ok}
 use Rattle.interning.specs.Interning.{strings_interned}
 use Rattle.lists.specs.Lists.{room}
 use Rattle.used.specs.Used.{within}
-use Rattle.strings.specs.declared.Strings.{Strings}
-use Rattle.strings.specs.declared.Strings.TheVariants.{Done, BadWord, TooMany, BadShape, NoRoom}
+use Rattle.strings.specs.declared.Unfit as declared
 
 -- document 01's number of each answer; the index of the function that is refused; how many globals are used afterwards, of `used` before
-abbrev pub number_for : Strings → ℕ
-number_for (Done count) = 0
-number_for (BadWord k) = 1
-number_for (TooMany k) = 2
-number_for (BadShape k) = 3
-number_for NoRoom = 9
+abbrev pub number_for : Result ℕ declared.Unfit → ℕ
+number_for (Ok count) = 0
+number_for (Err f) = number_of f.why
 
-abbrev pub index_for : Strings → ℕ
-index_for (Done count) = 0
-index_for (BadWord k) = k
-index_for (TooMany k) = k
-index_for (BadShape k) = k
-index_for NoRoom = 0
+abbrev pub index_for : Result ℕ declared.Unfit → ℕ
+index_for (Ok count) = 0
+index_for (Err f) = f.index
 
-abbrev pub used_for : ℕ → Strings → ℕ
-used_for used (Done count) = count
-used_for used (BadWord k) = used
-used_for used (TooMany k) = used
-used_for used (BadShape k) = used
-used_for used NoRoom = used
+abbrev pub used_for : ℕ → Result ℕ declared.Unfit → ℕ
+used_for used (Ok count) = count
+used_for used (Err f) = used
 
 -- The functions stand one behind the other, from `from` on; each is given by where it ends.
 unfoldable pub functions_in : List ℕ → ℕ → List ℕ → List (List ℕ)
@@ -51,6 +42,11 @@ unfit_string n ws = pick (is_used ws) (pick (words_ok ws) (pick (counts_ok n ws)
 pub record Unfit : Type 0 where
   pub number : ℕ
   pub index : ℕ
+
+-- the one that the code finds
+abbrev pub found : Option declared.Unfit → Unfit
+found None = record { number = 0; index = 0 }
+found (Some f) = record { number = number_of f.why; index = f.index }
 
 unfoldable pub first_unfit : ℕ → ℕ → List (List ℕ) → Unfit
 first_unfit n k [] = record { number = 0; index = 0 }
@@ -79,7 +75,7 @@ pub record Outcome : Type 0 where
   pub used : ℕ
   pub globals : List ℕ
 
-abbrev pub outcome : Strings → ℕ → List ℕ → Outcome
+abbrev pub outcome : Result ℕ declared.Unfit → ℕ → List ℕ → Outcome
 outcome r used globals = record { number = number_for r; index = index_for r; used = used_for used r; globals = globals }
 
 -- a refused call interns nothing

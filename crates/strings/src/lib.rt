@@ -7,54 +7,41 @@ ghost use Rattle.grow.specs.Growing.{Grows};
 ghost use Rattle.judge.specs.Judged.{verdict_number};
 ghost use Rattle.interning.specs.Interning.{strings_interned};
 ghost use Rattle.place.specs.Registers.{registers};
-ghost use Rattle.strings.specs.Strings.{functions_in, is_used, unfit_string, first_unfit, all_strings, used_ok, outcome, interned};
+ghost use Rattle.strings.specs.Strings.{functions_in, is_used, unfit_string, found, first_unfit, all_strings, used_ok, outcome, interned};
 
 use grow::End;
-use judge::Verdict;
+use refusal::Refusal;
 
+// Why a list is refused, and the index of its first unfit function, 0 where none is.
 #[derive(Clone, Copy)]
-pub enum Strings {
-    // how many globals there are
-    Done(usize),
-    // the index of the first unfit function
-    BadWord(usize),
-    TooMany(usize),
-    BadShape(usize),
-    NoRoom,
+pub struct Unfit {
+    pub why: Refusal,
+    pub index: usize,
 }
 
 // The words of the most globals.
 const MOST_WORDS: usize = 131068;
 
-// A verdict's number from 1 to 3, 0 for any other.
-fn low_number(v: Verdict) -> u8
-    ensures { result ≡ pick (leb (verdict_number v) 3) (verdict_number v) 0 }
+// A verdict from 1 to 3, none for any other.
+fn low(v: Result<(), Refusal>) -> Result<(), Refusal>
+    ensures { verdict_number result ≡ pick (leb (verdict_number v) 3) (verdict_number v) 0 }
 {
-    match v {
-        Verdict::BadWord => 1,
-        Verdict::TooMany => 2,
-        Verdict::BadShape => 3,
-        _ => 0,
+    if refusal::number_for(v) <= 3 {
+        v
+    } else {
+        Ok(())
     }
 }
 
-// 1, 2 or 3 of a used function, 0 for none.
-fn unfit_string(ws: &[u32]) -> u8
-    ensures { result ≡ unfit_string registers ws.now }
+// 1, 2 or 3 of a used function.
+fn unfit_string(ws: &[u32]) -> Result<(), Refusal>
+    ensures { verdict_number result ≡ unfit_string registers ws.now }
 {
     if input::head_field(ws, 2) != 0 {
-        return 0;
+        return Ok(());
     }
     let none = [0u64; 1];
-    let v = judge::judge(ws, &none);
-    low_number(v)
-}
-
-// The lesser of two numbers.
-fn lesser(n: usize, m: usize) -> usize
-    ensures { result ≡ min n m }
-{
-    if n < m { n } else { m }
+    low(judge::judge(ws, &none))
 }
 
 // Where a part of so many words starts, and ends.
@@ -68,53 +55,34 @@ struct Bounds {
 fn part(size: usize, from: usize, end: usize) -> Bounds
     ensures { (result.from ≡ min from size) × (result.end ≡ max (min from size) (min end size)) }
 {
-    let lo = lesser(from, size);
-    let hi = lesser(end, size);
-    if hi < lo {
-        return Bounds { from: lo, end: lo };
+    let from = from.min(size);
+    Bounds {
+        from,
+        end: end.min(size).max(from),
     }
-    Bounds { from: lo, end: hi }
 }
 
-// The number of the function between two ends.
-fn unfit_part(words: &[u32], from: usize, end: usize) -> u8
-    ensures { result ≡ unfit_string registers (take (end - from) (drop from words.now)) }
+// The function between two ends.
+fn unfit_part(words: &[u32], from: usize, end: usize) -> Result<(), Refusal>
+    ensures { verdict_number result ≡ unfit_string registers (take (end - from) (drop from words.now)) }
 {
     let p = part(words.len(), from, end);
-    let lo = p.from;
-    let hi = p.end;
-    unfit_string(&words[lo..hi])
+    unfit_string(&words[p.from..p.end])
 }
 
-// The first unfit function of a list; its number is 0 where there is none.
-#[derive(Clone, Copy)]
-struct Unfit {
-    number: u8,
-    index: usize,
-}
-
-// Function k stands between the end before it and its own.
-fn first_unfit(words: &[u32], ends: &[u32]) -> Unfit
-    ensures { (result.number ≡ (first_unfit registers 0 (functions_in words.now 0 ends.now)).number) × (result.index ≡ (first_unfit registers 0 (functions_in words.now 0 ends.now)).index) }
+// The first unfit function of a list. Function k stands between the end before it and its own.
+fn first_unfit(words: &[u32], ends: &[u32]) -> Option<Unfit>
+    ensures { found result ≡ first_unfit registers 0 (functions_in words.now 0 ends.now) }
 {
     let mut from = 0;
-    let mut k = 0;
-    while k < ends.len() {
-        let end = base::get32(ends, k) as usize;
-        let number = unfit_part(words, from, end);
-        if number != 0 {
-            return Unfit {
-                number: number,
-                index: k,
-            };
+    for (k, end) in ends.iter().enumerate() {
+        let to = *end as usize;
+        if let Err(why) = unfit_part(words, from, to) {
+            return Some(Unfit { why, index: k });
         }
-        from = end;
-        k += 1;
+        from = to;
     }
-    Unfit {
-        number: 0,
-        index: 0,
-    }
+    None
 }
 
 // The strings of a function that is fit, none of an unused one.
@@ -135,9 +103,7 @@ fn intern_part(words: &[u32], from: usize, end: usize, globals: &mut [u64], e: E
     ensures { Grows (λ g. pick (is_used (take (end - from) (drop from words.now))) (strings_interned (take (end - from) (drop from words.now)) g) g) globals.old e globals.new result }
 {
     let p = part(words.len(), from, end);
-    let lo = p.from;
-    let hi = p.end;
-    intern_used(&words[lo..hi], globals, e)
+    intern_used(&words[p.from..p.end], globals, e)
 }
 
 // Those of a list of functions, of which none is unfit.
@@ -147,12 +113,10 @@ fn intern_list(words: &[u32], ends: &[u32], globals: &mut [u64], e: End) -> End
 {
     let mut f = e;
     let mut from = 0;
-    let mut k = 0;
-    while k < ends.len() {
-        let end = base::get32(ends, k) as usize;
-        f = intern_part(words, from, end, globals, f);
-        from = end;
-        k += 1;
+    for end in ends {
+        let to = *end as usize;
+        f = intern_part(words, from, to, globals, f);
+        from = to;
     }
     f
 }
@@ -164,12 +128,12 @@ fn intern_in(
     globals: &mut [u64],
     list: &mut [u64],
     used: usize,
-) -> Strings
+) -> Result<usize, Unfit>
     requires { ((first_unfit registers 0 (functions_in words.now 0 ends.now)).number ≡ 0) × (used_ok globals.old used ≡ true) × (length list.old ≡ 131068) }
     ensures { outcome result used globals.new ≡ interned registers words.now ends.now globals.old used }
 {
     let n = 2 * used;
-    base::copy64(list, 0, &globals[..n]);
+    base::copy(list, 0, &globals[..n]);
     let start = End {
         at: n,
         room: lists::room(2, globals.len()),
@@ -177,30 +141,37 @@ fn intern_in(
     };
     let e = intern_list(words, ends, list, start);
     if e.full {
-        return Strings::NoRoom;
+        return Err(Unfit {
+            why: Refusal::NoRoom,
+            index: 0,
+        });
     }
-    let at = e.at;
-    base::copy64(globals, 0, &list[..at]);
-    Strings::Done(at / 2)
+    base::copy(globals, 0, &list[..e.at]);
+    Ok(e.at / 2)
 }
 
 // Any words, any ends, any globals.
-pub fn intern_strings(words: &[u32], ends: &[u32], globals: &mut [u64], used: usize) -> Strings
+pub fn intern_strings(
+    words: &[u32],
+    ends: &[u32],
+    globals: &mut [u64],
+    used: usize,
+) -> Result<usize, Unfit>
     ensures { outcome result used globals.new ≡ interned registers words.now ends.now globals.old used }
 {
-    let f = first_unfit(words, ends);
-    let index = f.index;
-    if f.number == 1 {
-        return Strings::BadWord(index);
+    let fits = used::within(2, used, globals.len());
+    let too_many = Unfit {
+        why: Refusal::TooMany,
+        index: 0,
+    };
+    if let Some(f) = first_unfit(words, ends) {
+        if fits | (f.why.number() == 1) {
+            return Err(f);
+        }
+        return Err(too_many);
     }
-    if !used::within(2, used, globals.len()) {
-        return Strings::TooMany(0);
-    }
-    if f.number == 2 {
-        return Strings::TooMany(index);
-    }
-    if f.number == 3 {
-        return Strings::BadShape(index);
+    if !fits {
+        return Err(too_many);
     }
     let mut list = [0u64; MOST_WORDS];
     intern_in(words, ends, globals, &mut list, used)

@@ -1,12 +1,12 @@
 -- Switch tables: each block's head and slots in turn, and each case of a table.
-use Rattle.std.proofs.Common.{◌≡◌, ℕ, zero, suc, ◌+◌, ◌-◌, ◌*◌, ◌%◌, ◌^◌, ◌<◌, ◌≤◌, Bool, true, false, eqb, List, [], ◌∷◌, ◌++◌, set, replicate, sym, refl, ap, ◌∙◌, append_assoc, append-nil, add-zero, arith, eq-eqb, ne_eqb, eqb-true}
+use Rattle.std.proofs.Common.{◌≡◌, ℕ, zero, suc, ◌+◌, ◌-◌, ◌*◌, ◌%◌, ◌^◌, ◌<◌, ◌≤◌, Bool, true, false, eqb, List, [], ◌∷◌, ◌++◌, set, replicate, sym, refl, ap, ◌∙◌, append-nil, add-zero, arith, eqb-true}
 use lib.Seq.{append_snoc}
 use Rattle.base.specs.Choice.{pick}
 use Rattle.grow.specs.declared.End.{End}
 use Rattle.grow.specs.Growing.{Grows}
-use Rattle.grow.proofs.Growing.{Left, left_as, left-turn, left_end, none, then, renamed}
+use Rattle.grow.proofs.Growing.{Left, left-turn, left_end, then, renamed}
 use Rattle.input.specs.Layout.{blocks}
-use Rattle.input.specs.Records.{tombstone, is_live, term_kind, term_x, term_y, first_edge, edge_target, switch}
+use Rattle.input.specs.Records.{is_live, term_kind, term_x, term_y, first_edge, edge_target, switch}
 use Rattle.fit.specs.Keys.{ranked, smallest}
 use Rattle.ready.specs.Ready.{Ready, Live, KeysReady}
 use Rattle.edges.specs.Edges.{has_moves, pad_count}
@@ -19,12 +19,6 @@ switch-parts : (live : Bool) (kind : ℕ) → pick live (eqb kind switch) false 
 switch-parts true kind h = (refl, eqb-true kind switch h)
 switch-parts false kind h = let z : ◌≡◌ {A = ℕ} 0 1 = cc in absurd (omega arith)
 
-pub switch-dead : (ws : List ℕ) (b : ℕ) → (tombstone ws b ≡ 0 → ⊥) → false ≡ has_switch ws b
-switch-dead ws b h = rw (ne_eqb (tombstone ws b) 0 h)
-
-pub switch-asked : (ws : List ℕ) (b kind : ℕ) → tombstone ws b ≡ 0 → kind ≡ term_kind ws b → eqb kind 7 ≡ has_switch ws b
-switch-asked ws b kind h e = rw (eq-eqb (tombstone ws b) 0 h, e)
-
 module _ {ws : List ℕ} (k : Ready ws) (b : ℕ) (there : b < blocks ws) where
   switch-live : has_switch ws b ≡ true → Live ws b
   switch-live h = record { there = there; is = (switch-parts (is_live ws b) (term_kind ws b) h).0 }
@@ -34,9 +28,6 @@ module _ {ws : List ℕ} (k : Ready ws) (b : ℕ) (there : b < blocks ws) where
 
   pub switch-keys : has_switch ws b ≡ true → KeysReady ws 1 (term_x ws b) (term_y ws b)
   switch-keys h = k.cases b (switch-live h) (switch_kind h)
-
-  pub switch_edges_lem : has_switch ws b ≡ true → first_edge ws b + term_y ws b < 4294967296
-  switch_edges_lem h = omega (arith, k.edges b (switch-live h), k.case_edges b (switch-live h) (switch_kind h))
 
   -- what a block adds to the slots and to the pads
   pub switch_slots_few : pick (has_switch ws b) (slot_count ws (case_keys ws b)) 0 ≤ 4096
@@ -65,31 +56,12 @@ switch-pads_few {ws} map b k there = go (has_switch ws b) (switch-keys k b there
 
 -- ---- heads
 
--- three numbers behind one another
-pub three : {b b' b'' b''' : List ℕ} {e e' e'' e''' : End} (x y z : ℕ) → Grows (λ l. l ++ (x ∷ [])) b e b' e' → Grows (λ l. l ++ (y ∷ [])) b' e' b'' e''
-    → Grows (λ l. l ++ (z ∷ [])) b'' e'' b''' e''' → Grows (λ l. l ++ (x ∷ y ∷ z ∷ [])) b e b''' e'''
-three x y z p q r =
-    renamed (then (then p q) r) (λ l. append_assoc (l ++ (x ∷ [])) (y ∷ []) (z ∷ []) ∙ append_assoc l (x ∷ []) (y ∷ z ∷ []))
-
 module _ (ws : List ℕ) (b start : ℕ) (h : has_switch ws b ≡ true) where
   pub head-some : {buf buf' : List ℕ} {e e' : End} (low n : ℕ) → low ≡ smallest ws (case_keys ws b) → n ≡ slot_count ws (case_keys ws b)
       → Grows (λ l. l ++ (((low + 2 ^ 63) % 2 ^ 64) ∷ start ∷ n ∷ [])) buf e buf' e'
       → Grows (λ l. pick (has_switch ws b) (l ++ switch_head ws b start) l) buf e buf' e'
   unfolding first_key
   head-some low n l-is n-is s = renamed s (λ l. rw (h, l-is, n-is))
-
-  pub slots_some : (n : ℕ) → n ≡ slot_count ws (case_keys ws b) → start + n ≡ start + pick (has_switch ws b) (slot_count ws (case_keys ws b)) 0
-  slots_some n is = rw (h, is)
-
-  pub pads-some : (next p : ℕ) → next ≡ start + p → next ≡ start + pick (has_switch ws b) p 0
-  pads-some next p is = rw h is
-
-module _ (ws : List ℕ) (b start : ℕ) (h : has_switch ws b ≡ false) where
-  pub adds_none : (x : ℕ) → start ≡ start + pick (has_switch ws b) x 0
-  adds_none x = rw h (sym (add-zero start))
-
-  pub no_table : (f : List ℕ → List ℕ) (buf : List ℕ) (e : End) → Grows (λ l. pick (has_switch ws b) (f l) l) buf e buf e
-  no_table f buf e = renamed (none buf e) (λ l. rw h)
 
 heads_case : (ws : List ℕ) (start s b k : ℕ) (head l : List ℕ) (t : Bool)
     → pick t (switch_heads ws (start + s) b k (l ++ head)) (switch_heads ws start b k l) ≡ switch_heads ws (start + pick t s 0) b k (pick t (l ++ head) l)
@@ -99,9 +71,6 @@ heads_case ws start s b k head l false = ap (λ (n : ℕ). switch_heads ws n b k
 -- the heads from block b on are left
 abbrev pub HeadsLeft : List ℕ → ℕ → ℕ → List ℕ → End → ℕ → ℕ → List ℕ → End → Type 0
 HeadsLeft ws used n buf e start b buf' e' = Left (switch_heads ws start b (n - b)) (switch_heads ws used 0 n) buf e buf' e'
-
-pub heads_start : (ws : List ℕ) (used n : ℕ) (buf : List ℕ) (e : End) → HeadsLeft ws used n buf e used 0 buf e
-heads_start ws used n buf e = left_as (λ l. let z : n - 0 ≡ n = omega arith in ap (λ (m : ℕ). switch_heads ws used 0 m l) z)
 
 module _ (ws : List ℕ) (used n : ℕ) {buf buf' : List ℕ} {e e' : End} (start b : ℕ) (s : HeadsLeft ws used n buf e start b buf' e') where
   pub heads_turn : {buf'' : List ℕ} {e'' : End} (next : ℕ) → b < n → next ≡ start + pick (has_switch ws b) (slot_count ws (case_keys ws b)) 0
@@ -121,35 +90,20 @@ module _ (ws : List ℕ) (used n : ℕ) {buf buf' : List ℕ} {e e' : End} (star
 -- ---- slots
 
 -- one target after another
-pub same_turn : {buf buf' buf'' : List ℕ} {e e' e'' : End} (x n left : ℕ) → 0 < left
-    → Left (λ l. l ++ replicate left x) (λ l. l ++ replicate n x) buf e buf' e' → Grows (λ l. l ++ (x ∷ [])) buf' e' buf'' e''
-    → Left (λ l. l ++ replicate (left - 1) x) (λ l. l ++ replicate n x) buf e buf'' e''
-same_turn x n left h s t =
-    let k : left ≡ suc (left - 1) = omega arith in
-    left-turn (λ l. l ++ replicate (left - 1) x) s t
-    (λ l. ap (λ (m : ℕ). l ++ replicate m x) k ∙ sym (append_snoc l x (replicate (left - 1) x)))
+abbrev pub SameLeft : ℕ → ℕ → List ℕ → End → ℕ → List ℕ → End → Type 0
+SameLeft x n buf e i buf' e' = Left (λ l. l ++ replicate (n - i) x) (λ l. l ++ replicate n x) buf e buf' e'
 
-pub same_end : {buf buf' : List ℕ} {e e' : End} (x n left : ℕ) → left ≤ 0
-    → Left (λ l. l ++ replicate left x) (λ l. l ++ replicate n x) buf e buf' e' → Grows (λ l. l ++ replicate n x) buf e buf' e'
-same_end x n left h s =
-    let k : left ≡ 0 = omega arith in
+pub same_turn : {buf buf' buf'' : List ℕ} {e e' e'' : End} (x n i : ℕ) → i < n → SameLeft x n buf e i buf' e'
+    → Grows (λ l. l ++ (x ∷ [])) buf' e' buf'' e'' → SameLeft x n buf e (i + 1) buf'' e''
+same_turn x n i h s t =
+    let k : n - i ≡ suc (n - (i + 1)) = omega arith in
+    left-turn (λ l. l ++ replicate (n - (i + 1)) x) s t
+    (λ l. ap (λ (m : ℕ). l ++ replicate m x) k ∙ sym (append_snoc l x (replicate (n - (i + 1)) x)))
+
+pub same_end : {buf buf' : List ℕ} {e e' : End} (x n i : ℕ) → n ≤ i → SameLeft x n buf e i buf' e' → Grows (λ l. l ++ replicate n x) buf e buf' e'
+same_end x n i h s =
+    let k : n - i ≡ 0 = omega arith in
     left_end s (λ l. ap (λ (m : ℕ). l ++ replicate m x) k ∙ append-nil l)
-
--- a case's pad, if it has one
-pub pad_one : (label : ℕ) (t : Bool) → t ≡ true → label + 1 ≡ label + pick t 1 0
-pad_one label t h = rw h
-
-pub pad_none : (label : ℕ) (t : Bool) → t ≡ false → label ≡ label + pick t 1 0
-pad_none label t h = rw h (sym (add-zero label))
-
--- a case's target is its pad's label or its block
-pub case_pad : {buf buf' : List ℕ} {e e' : End} (i label target : ℕ) (t : Bool) → t ≡ true → Grows (λ l. set l i label) buf e buf' e'
-    → Grows (λ l. set l i (pick t label target)) buf e buf' e'
-case_pad i label target t h s = renamed s (λ l. rw h)
-
-pub case_block : {buf buf' : List ℕ} {e e' : End} (i label target : ℕ) (t : Bool) → t ≡ false → Grows (λ l. set l i target) buf e buf' e'
-    → Grows (λ l. set l i (pick t label target)) buf e buf' e'
-case_block i label target t h s = renamed s (λ l. rw h)
 
 module _ (ws map keys : List ℕ) (start : ℕ) where
   cases_case : (label c e k i target : ℕ) (l : List ℕ) (t : Bool)
@@ -163,13 +117,6 @@ module _ (ws map keys : List ℕ) (start : ℕ) where
   abbrev pub CasesLeft : ℕ → ℕ → ℕ → ℕ → List ℕ → End → ℕ → ℕ → List ℕ → End → Type 0
   CasesLeft label c edge n buf e next j buf' e' =
       Left (store_cases ws map keys start next (c + j) (edge + j) (n - j)) (store_cases ws map keys start label c edge n) buf e buf' e'
-
-  pub cases-start : (label c edge n : ℕ) (buf : List ℕ) (e : End) → CasesLeft label c edge n buf e label 0 buf e
-  cases-start label c edge n buf e =
-      let x : c + 0 ≡ c = omega arith in
-      let y : edge + 0 ≡ edge = omega arith in
-      let z : n - 0 ≡ n = omega arith in
-      left_as (λ l. rw (x, y, z))
 
   module _ (label c edge n : ℕ) {buf buf' : List ℕ} {e e' : End} (next j : ℕ) (s : CasesLeft label c edge n buf e next j buf' e') where
     pub cases-turn : {buf'' : List ℕ} {e'' : End} (then' slot : ℕ) → j < n → then' ≡ next + pick (has_moves ws map (edge + j)) 1 0
@@ -197,12 +144,6 @@ module _ (ws map keys : List ℕ) (start : ℕ) where
 abbrev pub PadsLeft : List ℕ → List ℕ → ℕ → ℕ → ℕ → ℕ → ℕ → Type 0
 PadsLeft ws map label edge n next j =
     (next ≤ label + j) × (next + pad_count ws map (edge + j) (n - j) ≡ label + pad_count ws map edge n)
-
-pub pads-start : (ws map : List ℕ) (label edge n : ℕ) → PadsLeft ws map label edge n label 0
-pads-start ws map label edge n =
-    let y : edge + 0 ≡ edge = omega arith in
-    let z : n - 0 ≡ n = omega arith in
-    (omega arith, rw (y, z))
 
 module _ (ws map : List ℕ) (label edge n next j : ℕ) (s : PadsLeft ws map label edge n next j) where
   pub pads-turn : (then' : ℕ) → j < n → then' ≡ next + pick (has_moves ws map (edge + j)) 1 0 → PadsLeft ws map label edge n then' (j + 1)
@@ -248,9 +189,6 @@ targets_case ws map start s label p b k l l' false =
 abbrev pub TargetsLeft : List ℕ → List ℕ → ℕ → ℕ → List ℕ → End → ℕ → ℕ → ℕ → List ℕ → End → Type 0
 TargetsLeft ws map used n buf e start label b buf' e' =
     Left (switch_targets ws map start label b (n - b)) (switch_targets ws map used (2 * n) 0 n) buf e buf' e'
-
-pub targets_start : (ws map : List ℕ) (used n : ℕ) (buf : List ℕ) (e : End) → TargetsLeft ws map used n buf e used (2 * n) 0 buf e
-targets_start ws map used n buf e = let z : n - 0 ≡ n = omega arith in left_as (λ l. ap (λ (m : ℕ). switch_targets ws map used (2 * n) 0 m l) z)
 
 module _ (ws map : List ℕ) (used n : ℕ) {buf buf' : List ℕ} {e e' : End} (start label b : ℕ)
     (s : TargetsLeft ws map used n buf e start label b buf' e') where

@@ -12,9 +12,7 @@ ghost use Rattle.edges.specs.Edges.{has_moves, pad_count};
 ghost use Rattle.tables.specs.Tables.{slot_count, case_keys, switch_head, store_cases, switch_slots, has_switch, switch_heads_after, switch_targets_after};
 
 use grow::End;
-
-// The kind of terminator that has a table.
-const SWITCH: u32 = 7;
+use input::kinds;
 
 // The least rank of a table's keys, and how many slots it has.
 #[derive(Clone, Copy)]
@@ -29,19 +27,15 @@ pub fn key_range(ws: &[u32], first: u32, step: u8, n: u32) -> Range
     ensures { (result.low ≡ smallest ws.now (keys_at step first n)) × (result.slots ≡ slot_count ws.now (keys_at step first n)) × (result.slots ≤ 4096) }
 {
     let mut low = u64::MAX;
-    let mut high = 0;
-    let mut c = first as usize;
-    let mut left = n;
-    while 0 < left {
-        let key = fit::rank(ws, c);
-        low = fit::lesser(low, key);
-        high = fit::greater(high, key);
-        c += step as usize;
-        left -= 1;
+    let mut high = u64::MIN;
+    for j in 0..n {
+        let key = fit::rank(ws, first as usize + step as usize * j as usize);
+        low = low.min(key);
+        high = high.max(key);
     }
     Range {
-        low: low,
-        slots: ((high - low) as usize) + 1,
+        low,
+        slots: (high - low) as usize + 1,
     }
 }
 
@@ -68,9 +62,9 @@ pub fn put_head(heads: &mut [u64], e: End, k: Range, start: usize) -> End
     ensures { Grows (λ l. l ++ (((k.low + 2 ^ 63) % 2 ^ 64) ∷ start ∷ k.slots ∷ [])) heads.old e heads.new result }
 {
     let first = std::num::wrapping_add_u64(k.low, 9223372036854775808);
-    let f = grow::push64(heads, e, first);
-    let g = grow::push64(heads, f, start as u64);
-    grow::push64(heads, g, k.slots as u64)
+    let f = e.push(heads, first);
+    let g = f.push(heads, start as u64);
+    g.push(heads, k.slots as u64)
 }
 
 // The end of a list of tables, and where the slots of the next start.
@@ -84,10 +78,7 @@ pub struct Slots {
 fn has_switch(ws: &[u32], b: u32) -> bool
     ensures { result ≡ has_switch ws.now b }
 {
-    if input::block_field(ws, b, 1) != 0 {
-        return false;
-    }
-    input::block_field(ws, b, 6) == SWITCH
+    input::block_field(ws, b, 1) == 0 && input::block_field(ws, b, 6) == kinds::term::SWITCH
 }
 
 // The head of block b's table, if it has one.
@@ -101,12 +92,9 @@ fn switch_head(ws: &[u32], heads: &mut [u64], t: Slots, b: u32) -> Slots
         return t;
     }
     let k = case_range(ws, b);
-    let e = t.end;
-    let start = t.start;
-    let f = put_head(heads, e, k, start);
     Slots {
-        end: f,
-        start: start + k.slots,
+        end: put_head(heads, t.end, k, t.start),
+        start: t.start + k.slots,
     }
 }
 
@@ -116,15 +104,12 @@ pub fn put_switch_heads(ws: &[u32], heads: &mut [u64], e: End, used: usize) -> E
     requires ready { Ready ws.now }
     ensures { Grows (switch_heads_after ws.now used) heads.old e heads.new result }
 {
-    let end = input::head_field(ws, 4);
     let mut t = Slots {
         end: e,
         start: used,
     };
-    let mut b = 0;
-    while b < end {
+    for b in 0..input::head_field(ws, 4) {
         t = switch_head(ws, heads, t, b);
-        b += 1;
     }
     t.end
 }
@@ -134,10 +119,8 @@ fn put_targets(targets: &mut [u32], e: End, x: u32, n: usize) -> End
     ensures { Grows (λ l. l ++ replicate n x) targets.old e targets.new result }
 {
     let mut f = e;
-    let mut left = n;
-    while 0 < left {
-        f = grow::push32(targets, f, x);
-        left -= 1;
+    for _ in 0..n {
+        f = f.push(targets, x);
     }
     f
 }
@@ -157,11 +140,11 @@ fn store_case(
     ensures grows { Grows (λ l. slice_set l i (pick (has_moves ws.now map.now edge) label (edge_target ws.now edge))) targets.old e targets.new e }
 {
     if edges::has_moves(ws, map, edge) {
-        grow::store32(targets, e, i, label);
+        e.store(targets, i, label);
         return label + 1;
     }
     let target = input::edge_field(ws, edge, 0);
-    grow::store32(targets, e, i, target);
+    e.store(targets, i, target);
     label
 }
 
@@ -184,11 +167,9 @@ fn store_cases(
     ensures grows { Grows (store_cases ws.now map.now (keys_at 1 c n) start label c edge n) targets.old e targets.new e }
 {
     let mut next = label;
-    let mut j = 0;
-    while j < n {
-        let slot = slot_for(ws, (c as usize) + (j as usize), low);
+    for j in 0..n {
+        let slot = slot_for(ws, c as usize + j as usize, low);
         next = store_case(ws, map, targets, e, start + slot, next, edge + j);
-        j += 1;
     }
     next
 }
@@ -245,14 +226,12 @@ fn switch_slots(ws: &[u32], map: &[u32], targets: &mut [u32], t: Cases, b: u32) 
     }
     let k = case_range(ws, b);
     let other = default_target(ws, b);
-    let e = t.end;
-    let start = t.start;
-    let f = put_targets(targets, e, other, k.slots);
-    let label = block_cases(ws, map, targets, f, k.low, start, t.label, b);
+    let end = put_targets(targets, t.end, other, k.slots);
+    let label = block_cases(ws, map, targets, end, k.low, t.start, t.label, b);
     Cases {
-        end: f,
-        start: start + k.slots,
-        label: label,
+        end,
+        start: t.start + k.slots,
+        label,
     }
 }
 
@@ -268,10 +247,8 @@ pub fn put_switch_targets(ws: &[u32], map: &[u32], targets: &mut [u32], e: End, 
         start: used,
         label: 2 * end,
     };
-    let mut b = 0;
-    while b < end {
+    for b in 0..end {
         t = switch_slots(ws, map, targets, t, b);
-        b += 1;
     }
     t.end
 }

@@ -1,8 +1,7 @@
 -- Terminators by what the code found: the branches, Switch, and the chain of the kinds.
 use mathlib.Core.Path.{◌≡◌, sym, ◌∙◌}
-use Prim.Native.Nat.{ℕ, ◌+◌, ◌≤◌, ◌<◌}
+use Prim.Native.Nat.{ℕ, ◌+◌}
 use mathlib.Core.List.{List}
-use native.Mathlib.Omega.{arith}
 use borrow.Author.Tests.{ne_eqb}
 use lib.ListN.{get_or}
 use Rattle.base.specs.declared.Pen.{Pen}
@@ -19,7 +18,6 @@ use Rattle.lower.specs.Operands.{operand_reg, fetched}
 use Rattle.lower.proofs.Operands.{with-operand, with_operands}
 use Rattle.edges.specs.Edges.{edge, branch, switch_edges}
 use Rattle.calls.specs.Calls.{lower_tail}
-use Rattle.ready.specs.Ready.{Ready, Live}
 use Rattle.instrs.specs.Instrs.{Env}
 use Rattle.terms.specs.Terms.{term_place, branch_by, return_ops, branch_ops, switch_ops, term_ops}
 
@@ -110,41 +108,3 @@ module _ (n : ℕ) (env : Env) (table label next b₀ : ℕ) {kind : ℕ} (k : k
           ne_eqb kind in_words.tail_call g,
           ne_eqb kind in_words.switch h,
         ))
-
--- ---- the edges of a live block of a ready function
-module _ (ws : List ℕ) (b : ℕ) (r : Ready ws) (live : Live ws b) {kind : ℕ} (k : kind ≡ term_kind ws b) where
-  few_at : (i : ℕ) → i < edge_count ws b → param_count ws (edge_target ws (first_edge ws b + i)) ≤ 190
-  few_at i h = r.few_parameters b (first_edge ws b + i) (record { block = live; from = omega arith; until = omega arith })
-
-  pub jump_few : {e : ℕ} → kind ≡ in_words.jump → e ≡ first_edge ws b → param_count ws (edge_target ws e) ≤ 190
-  jump_few {e} h f =
-      let z : e ≡ first_edge ws b + 0 = omega arith in
-      rw z (few_at 0 (omega (arith, r.one_edge b live (sym k ∙ h))))
-
-  pub tail_few : {count : ℕ} → kind ≡ in_words.tail_call → count ≡ term_operand_count ws b → count ≤ 62
-  tail_few h f = rw f (r.few_tail b live (sym k ∙ h))
-
-  -- Switch: each case's edge and the default's
-  pub switch_few : kind ≡ in_words.switch → (i : ℕ) → i ≤ term_y ws b → param_count ws (edge_target ws (first_edge ws b + i)) ≤ 190
-  switch_few h i g = few_at i (omega (arith, r.case_edges b live (sym k ∙ h)))
-
-  pub switch_near : kind ≡ in_words.switch → first_edge ws b + term_y ws b < 4294967296
-  switch_near h = omega (arith, r.edges b live, r.case_edges b live (sym k ∙ h))
-
-  pub switch-cases : kind ≡ in_words.switch → term_y ws b ≤ 1024
-  switch-cases h = (r.cases b live (sym k ∙ h)).few
-
-  -- the branches: what is left of the kinds
-  module _ (known : term_kind ws b < 8) (a : kind ≡ in_words.no_term → ⊥) (c : kind ≡ in_words.return → ⊥) (d : kind ≡ in_words.jump → ⊥)
-      (g : kind ≡ in_words.tail_call → ⊥) (h : kind ≡ in_words.switch → ⊥) where
-    two : edge_count ws b ≡ 2
-    two = r.two_edges b live (omega arith) (omega arith)
-
-    pub branch_near : first_edge ws b + 1 < 4294967296
-    branch_near = omega (arith, r.edges b live, two)
-
-    pub branch-first : param_count ws (edge_target ws (first_edge ws b)) ≤ 190
-    branch-first = let z : first_edge ws b + 0 ≡ first_edge ws b = omega arith in rw z at (few_at 0 (omega (arith, two)))
-
-    pub branch-second : param_count ws (edge_target ws (first_edge ws b + 1)) ≤ 190
-    branch-second = few_at 1 (omega (arith, two))

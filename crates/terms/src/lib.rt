@@ -12,42 +12,38 @@ ghost use Rattle.instrs.specs.Instrs.{seen};
 ghost use Rattle.terms.specs.Terms.{term_place, return_ops, branch_ops, switch_ops, term_ops};
 
 use base::Pen;
+use input::kinds;
+use instrs::Seen;
 use op::Op;
 
-// Kinds of terminator.
-const NO_TERM: u32 = 0;
-
-const RETURN: u32 = 1;
-
-const JUMP: u32 = 2;
-
-const BRANCH: u32 = 3;
-
-const BRANCH_CMP_IMM: u32 = 4;
-
-const TAIL: u32 = 6;
-
-const SWITCH: u32 = 7;
+// An op of nothing but zeros.
+const NOP: Op = Op {
+    code: 0,
+    a: 0,
+    b: 0,
+    c: 0,
+    w: 0,
+};
 
 // The place of a terminator's operand k.
-fn term_place(ws: &[u32], map: &[u32], b: u32, k: u32) -> u32
-    ensures { result ≡ term_place ws.now map.now b k }
+fn term_place(s: Seen, b: u32, k: u32) -> u32
+    ensures { result ≡ term_place s.entry.ws.now s.entry.map.now b k }
 {
-    let at = input::block_field(ws, b, 8);
-    lower::place_at(map, input::pool_at(ws, at, k))
+    let at = input::block_field(s.ws, b, 8);
+    lower::place_at(s.map, input::pool_at(s.ws, at, k))
 }
 
 // Return of a value moves it to register 0.
-fn put_return(ops: &mut [u64], spans: &mut [u32], p: Pen, ws: &[u32], map: &[u32], b: u32) -> Pen
-    ensures { (l : List ℕ) → Lowers (return_ops registers ws.now map.now b) ops.old spans.old l p ops.new spans.new l result }
+fn put_return(ops: &mut [u64], spans: &mut [u32], p: Pen, s: Seen, b: u32) -> Pen
+    ensures { (l : List ℕ) → Lowers (return_ops registers s.entry.ws.now s.entry.map.now b) ops.old spans.old l p ops.new spans.new l result }
 {
-    if input::block_field(ws, b, 9) == 0 {
+    if input::block_field(s.ws, b, 9) == 0 {
         return base::put(ops, spans, p, op::ret());
     }
-    let a = term_place(ws, map, b, 0);
-    let s = lower::operand_reg(a, p.last);
+    let a = term_place(s, b, 0);
+    let x = lower::operand_reg(a, p.last);
     let q = lower::put_fetch(ops, spans, p, a);
-    let r = base::put(ops, spans, q, op::mov(0, s));
+    let r = base::put(ops, spans, q, op::mov(0, x));
     base::put(ops, spans, r, op::ret())
 }
 
@@ -58,9 +54,7 @@ fn jump_f(cond: u8) -> Op
     Op {
         code: 7,
         a: cond,
-        b: 0,
-        c: 0,
-        w: 0,
+        ..NOP
     }
 }
 
@@ -70,9 +64,8 @@ fn jump_ne_i(lhs: u8, imm: u32) -> Op
     Op {
         code: 9,
         a: lhs,
-        b: 0,
-        c: 0,
         w: imm,
+        ..NOP
     }
 }
 
@@ -83,8 +76,7 @@ fn jump_s_ne(lhs: u8, rhs: u8) -> Op
         code: 11,
         a: lhs,
         b: rhs,
-        c: 0,
-        w: 0,
+        ..NOP
     }
 }
 
@@ -94,54 +86,30 @@ fn put_branches(
     spans: &mut [u32],
     labels: &mut [u64],
     p: Pen,
-    ws: &[u32],
-    map: &[u32],
+    s: Seen,
     next: u32,
     b: u32,
 ) -> Pen
-    requires ws_bound { (blocks ws.now ≤ 1024) × (b < 1024) × (first_edge ws.now b + 1 < 4294967296) }
-    requires b_bound { (param_count ws.now (edge_target ws.now (first_edge ws.now b)) ≤ 190) × (param_count ws.now (edge_target ws.now (first_edge ws.now b + 1)) ≤ 190) }
-    ensures { Lowers (branch_ops registers ws.now map.now next b) ops.old spans.old labels.old p ops.new spans.new labels.new result }
+    requires ws_bound { (blocks s.ws.now ≤ 1024) × (b < 1024) × (first_edge s.ws.now b + 1 < 4294967296) }
+    requires b_bound { (param_count s.ws.now (edge_target s.ws.now (first_edge s.ws.now b)) ≤ 190) × (param_count s.ws.now (edge_target s.ws.now (first_edge s.ws.now b + 1)) ≤ 190) }
+    ensures { Lowers (branch_ops registers s.entry.ws.now s.entry.map.now next b) ops.old spans.old labels.old p ops.new spans.new labels.new result }
 {
-    let kind = input::block_field(ws, b, 6);
-    let label = input::head_field(ws, 4) + b;
-    let e = input::block_field(ws, b, 10);
-    let x = term_place(ws, map, b, 0);
+    let label = input::head_field(s.ws, 4) + b;
+    let e = input::block_field(s.ws, b, 10);
+    let x = term_place(s, b, 0);
     let l = lower::operand_reg(x, p.last);
-    let q = lower::put_fetch(ops, spans, p, x);
-    if kind == BRANCH {
-        return edges::put_branch(ops, spans, labels, q, ws, map, jump_f(l), label, next, e);
-    }
-    if kind == BRANCH_CMP_IMM {
-        let imm = input::block_field(ws, b, 13);
-        return edges::put_branch(
-            ops,
-            spans,
-            labels,
-            q,
-            ws,
-            map,
-            jump_ne_i(l, imm),
-            label,
-            next,
-            e,
-        );
-    }
-    let y = term_place(ws, map, b, 1);
-    let r = lower::operand_reg(y, q.last);
-    let s = lower::put_fetch(ops, spans, q, y);
-    edges::put_branch(
-        ops,
-        spans,
-        labels,
-        s,
-        ws,
-        map,
-        jump_s_ne(l, r),
-        label,
-        next,
-        e,
-    )
+    let mut q = lower::put_fetch(ops, spans, p, x);
+    let jump = match input::block_field(s.ws, b, 6) {
+        kinds::term::BRANCH => jump_f(l),
+        kinds::term::BRANCH_CMP_IMM => jump_ne_i(l, input::block_field(s.ws, b, 13)),
+        _ => {
+            let y = term_place(s, b, 1);
+            let r = lower::operand_reg(y, q.last);
+            q = lower::put_fetch(ops, spans, q, y);
+            jump_s_ne(l, r)
+        }
+    };
+    edges::put_branch(ops, spans, labels, q, s.ws, s.map, jump, label, next, e)
 }
 
 // Switch, with the number of its table, and the label of its first pad.
@@ -150,24 +118,23 @@ fn put_switch(
     spans: &mut [u32],
     labels: &mut [u64],
     p: Pen,
-    ws: &[u32],
-    map: &[u32],
+    s: Seen,
     table: u32,
     label: u32,
     next: u32,
     b: u32,
 ) -> Pen
-    requires b_bound { (first_edge ws.now b + term_y ws.now b < 4294967296) × (label + term_y ws.now b < 4294967296) }
-    requires by_index { (i : ℕ) → i ≤ term_y ws.now b → param_count ws.now (edge_target ws.now (first_edge ws.now b + i)) ≤ 190 }
-    ensures { Lowers (switch_ops registers ws.now map.now table label next b) ops.old spans.old labels.old p ops.new spans.new labels.new result }
+    requires b_bound { (first_edge s.ws.now b + term_y s.ws.now b < 4294967296) × (label + term_y s.ws.now b < 4294967296) }
+    requires by_index { (i : ℕ) → i ≤ term_y s.ws.now b → param_count s.ws.now (edge_target s.ws.now (first_edge s.ws.now b + i)) ≤ 190 }
+    ensures { Lowers (switch_ops registers s.entry.ws.now s.entry.map.now table label next b) ops.old spans.old labels.old p ops.new spans.new labels.new result }
 {
-    let a = term_place(ws, map, b, 0);
-    let s = lower::operand_reg(a, p.last);
+    let a = term_place(s, b, 0);
+    let x = lower::operand_reg(a, p.last);
     let q = lower::put_fetch(ops, spans, p, a);
-    let r = base::put(ops, spans, q, op::switch(s, table));
-    let e = input::block_field(ws, b, 10);
-    let cases = input::block_field(ws, b, 13);
-    edges::put_switch_edges(ops, spans, labels, r, ws, map, label, next, e, cases)
+    let r = base::put(ops, spans, q, op::switch(x, table));
+    let e = input::block_field(s.ws, b, 10);
+    let cases = input::block_field(s.ws, b, 13);
+    edges::put_switch_edges(ops, spans, labels, r, s.ws, s.map, label, next, e, cases)
 }
 
 // A terminator by its kind.
@@ -176,36 +143,41 @@ pub fn put_term(
     spans: &mut [u32],
     labels: &mut [u64],
     p: Pen,
-    ws: &[u32],
-    map: &[u32],
-    functions: &[u64],
+    s: Seen,
     table: u32,
     label: u32,
     next: u32,
     b: u32,
 ) -> Pen
-    requires ready { Ready ws.now × Live ws.now b × (label + 1024 < 4294967296) }
-    requires b_bound { term_kind ws.now b < 8 }
-    ensures { (noted globals builtins : List ℕ) → Lowers (term_ops registers (seen ws.now map.now noted functions.now globals builtins) table label next b) ops.old spans.old labels.old p ops.new spans.new labels.new result }
+    requires ready { Ready s.ws.now × Live s.ws.now b × (label + 1024 < 4294967296) }
+    requires b_bound { term_kind s.ws.now b < 8 }
+    ensures { (noted globals builtins : List ℕ) → Lowers (term_ops registers (seen s.entry.ws.now s.entry.map.now noted s.entry.functions.now globals builtins) table label next b) ops.old spans.old labels.old p ops.new spans.new labels.new result }
 {
-    let kind = input::block_field(ws, b, 6);
-    if kind == NO_TERM {
+    let kind = input::block_field(s.ws, b, 6);
+    if kind == kinds::term::NONE {
         return p;
     }
-    let q = base::at_span(p, input::block_field(ws, b, 7));
-    if kind == RETURN {
-        return put_return(ops, spans, q, ws, map, b);
+    let q = base::at_span(p, input::block_field(s.ws, b, 7));
+    match kind {
+        kinds::term::RETURN => put_return(ops, spans, q, s, b),
+        kinds::term::JUMP => {
+            edges::put_edge(
+                ops,
+                spans,
+                q,
+                s.ws,
+                s.map,
+                next,
+                input::block_field(s.ws, b, 10),
+            )
+        }
+        kinds::term::TAIL => {
+            let f = base::get_or(s.functions, input::block_field(s.ws, b, 12) as usize, 0);
+            let at = input::block_field(s.ws, b, 8);
+            let count = input::block_field(s.ws, b, 9);
+            calls::put_tail(ops, spans, q, s.ws, s.map, at, count, f)
+        }
+        kinds::term::SWITCH => put_switch(ops, spans, labels, q, s, table, label, next, b),
+        _ => put_branches(ops, spans, labels, q, s, next, b),
     }
-    if kind == JUMP {
-        return edges::put_edge(ops, spans, q, ws, map, next, input::block_field(ws, b, 10));
-    }
-    if kind == TAIL {
-        let f = base::get64(functions, input::block_field(ws, b, 12) as usize);
-        let at = input::block_field(ws, b, 8);
-        return calls::put_tail(ops, spans, q, ws, map, at, input::block_field(ws, b, 9), f);
-    }
-    if kind == SWITCH {
-        return put_switch(ops, spans, labels, q, ws, map, table, label, next, b);
-    }
-    put_branches(ops, spans, labels, q, ws, map, next, b)
 }

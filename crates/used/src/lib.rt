@@ -6,20 +6,14 @@ ghost use Rattle.used.specs.Used.{within, slots_within, labels_for};
 ghost use Rattle.used.specs.Pens.{last_of, op_room, pen_at};
 
 use base::Pen;
-use lists::Used;
-
-// The most of a kind in a program.
-const MOST: usize = 65534;
+use lists::{MOST_OF_A_KIND, Used};
 
 // So many records of `words` words each are used of a buffer of `size` words.
 pub fn within(words: usize, used: usize, size: usize) -> bool
     requires { words ≤ 5 }
     ensures { result ≡ within words used size }
 {
-    if MOST < used {
-        return false;
-    }
-    words * used <= size
+    used <= MOST_OF_A_KIND && words * used <= size
 }
 
 // Slots of tables are counted in 32 bits.
@@ -27,10 +21,7 @@ pub fn slots_within(words: usize, used: usize, size: usize) -> bool
     requires { words ≤ 5 }
     ensures { result ≡ slots_within words used size }
 {
-    if 4294967295 < used {
-        return false;
-    }
-    words * used <= size
+    used <= 4294967295 && words * used <= size
 }
 
 // How many labels a function may have.
@@ -40,10 +31,7 @@ pub fn labels_for(ws: &[u32]) -> usize
     let blocks = input::head_field(ws, 4) as usize;
     let edges = input::head_field(ws, 6) as usize;
     let pads = blocks * edges;
-    if pads < 32767 {
-        return 2 * blocks + pads;
-    }
-    2 * blocks + 32767
+    2 * blocks + pads.min(32767)
 }
 
 // The program's last op, 0 where there is none.
@@ -53,7 +41,7 @@ fn last_op(ops: &[u64], used: usize) -> u64
     if used == 0 {
         0
     } else {
-        base::get64(ops, used - 1)
+        base::get_or(ops, used - 1, 0)
     }
 }
 
@@ -61,9 +49,7 @@ fn last_op(ops: &[u64], used: usize) -> u64
 fn op_room(ops: &[u64], spans: &[u32]) -> usize
     ensures { result ≡ op_room ops.now spans.now }
 {
-    let a = lists::room(1, ops.len());
-    let b = lists::room(1, spans.len());
-    if a < b { a } else { b }
+    lists::room(1, ops.len()).min(lists::room(1, spans.len()))
 }
 
 // A pen behind the program's ops.
@@ -83,13 +69,5 @@ pub fn pen_at(ws: &[u32], ops: &[u64], spans: &[u32], used: usize) -> Pen
 pub fn with_ops(u: Used, ops: usize) -> Used
     ensures { result ≡ record { ops = ops; globals = u.globals; builtins = u.builtins; switches = u.switches; targets = u.targets; lookups = u.lookups; values = u.values } }
 {
-    Used {
-        ops: ops,
-        globals: u.globals,
-        builtins: u.builtins,
-        switches: u.switches,
-        targets: u.targets,
-        lookups: u.lookups,
-        values: u.values,
-    }
+    Used { ops, ..u }
 }

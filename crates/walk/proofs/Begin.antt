@@ -6,7 +6,7 @@ use native.Mathlib.Omega.{arith}
 use native.Mathlib.Numerals.{add-one}
 use lib.ListN.{length, set, take, replicate, length-take, drop_of_length-le}
 use lib.Seq.{sets}
-use Rattle.base.specs.Buffers.{zero_from}
+use Rattle.base.specs.Buffers.{filled_from, zero_from}
 use Rattle.base.proofs.Lists.{sets-front}
 use Rattle.alloc.specs.declared.Alloc.{Alloc}
 use Rattle.alloc.specs.State.{fresh_of}
@@ -16,7 +16,7 @@ use Rattle.assign.specs.Walk.{walk, pool_of, first_hints, begin, assigned}
 use Rattle.assign.specs.Fits.{Lent, run_rows}
 
 pub zero_all : (l : List ℕ) (n : ℕ) → length l ≡ n → zero_from l 0 ≡ replicate n 0
-unfolding zero_from
+unfolding filled_from
 zero_all l n h = let e : length l - 0 ≡ n = omega arith in ap (λ (k : ℕ). replicate k 0) e
 
 pub length-hints : (ws : List ℕ) (v n : ℕ) → length (first_hints ws v n) ≡ n

@@ -1,6 +1,6 @@
 -- One turn of each loop that asks whether every value has a place, and of the one that finds the highest used register.
 use Prim.Native.Nat.{ℕ, suc, ◌+◌, ◌-◌, ◌<◌, ◌≤◌}
-use mathlib.Core.Bool.{Bool, true, false}
+use mathlib.Core.Bool.{Bool, true, false, not}
 use mathlib.Core.List.{List, [], ◌∷◌, ◌++◌}
 use mathlib.Core.Logic.{◌≢◌}
 use mathlib.Core.Path.{◌≡◌, refl, sym, ap, ap₂, ◌∙◌}
@@ -53,20 +53,20 @@ over-row map ws r (x ∷ xs) =
     ∙ sym (placed-append map (row_defs ws 0 x) (over_rows (row_defs ws) (0 + 1) xs))
 
 -- ---- a destination
+none_is_not : (b : Bool) → pick b false true ≡ not b
+none_is_not true = refl
+none_is_not false = refl
+
 module _ (map : List ℕ) (d : ℕ) where
   pub maybe_skips : d ≡ 0 → all_placed map (refs 0 (maybe d)) ≡ true
   unfolding all_placed refs
   maybe_skips h = rw h
 
-  maybe_is : 0 < d → all_placed map (refs 0 (maybe d)) ≡ pick (eqb (get_or map (d - 1) 0) 0) false true
+  pub maybe_is : 0 < d → all_placed map (refs 0 (maybe d)) ≡ not (eqb (get_or map (d - 1) 0) 0)
   unfolding all_placed refs
-  maybe_is h = let e : d ≡ suc (d - 1) = omega arith in ap (λ (k : ℕ). all_placed map (refs 0 (maybe k))) e
-
-  pub maybe_fails : 0 < d → get_or map (d - 1) 0 ≡ 0 → all_placed map (refs 0 (maybe d)) ≡ false
-  maybe_fails h k = maybe_is h ∙ rw (eq-eqb (get_or map (d - 1) 0) 0 k)
-
-  pub maybe_goes : 0 < d → get_or map (d - 1) 0 ≢ 0 → all_placed map (refs 0 (maybe d)) ≡ true
-  maybe_goes h k = maybe_is h ∙ rw (ne_eqb (get_or map (d - 1) 0) 0 k)
+  maybe_is h =
+      let e : d ≡ suc (d - 1) = omega arith in
+      ap (λ (k : ℕ). all_placed map (refs 0 (maybe k))) e ∙ none_is_not (eqb (get_or map (d - 1) 0) 0)
 
 module _ (map ws : List ℕ) where
   pub rows_cons : (x : Row) (xs : List Row) → rows_placed map ws (x ∷ xs) ≡ both (all_placed map (row_defs ws 0 x)) (rows_placed map ws xs)

@@ -31,10 +31,8 @@ fn instr_list(
     ensures noted_after { walk result map.new wish.now noted.new ≡ run_rows ws.now pool.now row (instr_rows first n) (walk s map.old wish.now noted.old) }
 {
     let mut t = s;
-    let mut j = 0;
-    while j < n {
+    for j in 0..n {
         t = assign::one_instr(t, ws, map, wish, noted, pool, row + j, first + j);
-        j += 1;
     }
     t
 }
@@ -115,11 +113,9 @@ fn all_blocks(
     let n = input::head_field(ws, 4);
     let mut t = s;
     let mut row: usize = 0;
-    let mut b = 0;
-    while b < n {
+    for b in 0..n {
         t = one_block(t, ws, map, wish, noted, pool, row as u32, b);
         row += rows_of(ws, b);
-        b += 1;
     }
     t
 }
@@ -129,10 +125,8 @@ fn first_hints(ws: &[u32], wish: &mut [u32])
     ensures { wish.new ≡ sets wish.old 0 (first_hints ws.now 0 (values ws.now)) }
 {
     let n = input::head_field(ws, 3);
-    let mut v = 0;
-    while v < n {
-        base::set32(wish, v as usize, input::value_field(ws, v, 2));
-        v += 1;
+    for v in 0..n {
+        base::set(wish, v as usize, input::value_field(ws, v, 2));
     }
 }
 
@@ -142,10 +136,8 @@ pub fn pool_of(pool: &mut [u8])
     ensures { pool.new ≡ pool_of (length pool.old) }
 {
     let n = pool.len();
-    let mut i = 0;
-    while i < n {
+    for i in 0..n {
         pool[i] = (n - 1 - i) as u8;
-        i += 1;
     }
 }
 
@@ -163,12 +155,10 @@ pub fn assign(
     ensures good { Good result }
     ensures noted_after { walk result map.new wish.new noted.new ≡ assigned registers ws.now }
 {
-    base::zero32(map, 0);
+    base::fill_from(map, 0, 0);
     first_hints(ws, wish);
-    base::zero64(noted, 0);
-    let none = &pool[0..0];
-    let s = Alloc::new(pool, none);
-    all_blocks(s, ws, map, wish, noted, pool)
+    base::fill_from(noted, 0, 0);
+    all_blocks(Alloc::new(pool, &[]), ws, map, wish, noted, pool)
 }
 
 // The same where the pool is still to be made.
@@ -196,7 +186,7 @@ pub fn give_places(ws: &[u32], map: &mut [u32], wish: &mut [u32], noted: &mut [u
     ensures good { Good result }
     ensures noted_after { walk result map.new wish.new noted.new ≡ assigned registers ws.now }
 {
-    let mut pool = [0u8; 64];
+    let mut pool = [0; 64];
     let n = (place::register_count() - 2) as usize;
     with_pool(ws, map, wish, noted, &mut pool[0..n])
 }
@@ -205,13 +195,10 @@ pub fn give_places(ws: &[u32], map: &mut [u32], wish: &mut [u32], noted: &mut [u
 pub fn top_used(s: Alloc) -> u8
     ensures { result ≡ used_below (get_or s.used 0 0) 64 }
 {
-    let m = s.used[0];
-    let mut r = 64;
-    while 0 < r {
-        if base::has(m, r - 1) {
-            return r;
+    for r in (0..64).rev() {
+        if base::has(s.used[0], r) {
+            return r + 1;
         }
-        r -= 1;
     }
     0
 }
@@ -220,13 +207,11 @@ pub fn top_used(s: Alloc) -> u8
 fn list_placed(ws: &[u32], map: &[u32], at: u32, n: u32) -> bool
     ensures { result ≡ all_placed map.now (refs 0 (list_at ws.now at n)) }
 {
-    let mut j = 0;
-    while j < n {
+    for j in 0..n {
         let v = input::pool_at(ws, at, j);
-        if base::get32(map, v as usize) == 0 {
+        if base::get_or(map, v as usize, 0) == 0 {
             return false;
         }
-        j += 1;
     }
     true
 }
@@ -235,13 +220,7 @@ fn list_placed(ws: &[u32], map: &[u32], at: u32, n: u32) -> bool
 fn maybe_placed(map: &[u32], d: u32) -> bool
     ensures { result ≡ all_placed map.now (refs 0 (maybe d)) }
 {
-    if d == 0 {
-        return true;
-    }
-    if base::get32(map, (d - 1) as usize) == 0 {
-        return false;
-    }
-    true
+    d == 0 || base::get_or(map, (d - 1) as usize, 0) != 0
 }
 
 // Has each destination of n instructions a place?
@@ -249,13 +228,11 @@ fn instrs_placed(ws: &[u32], map: &[u32], first: u32, n: u32) -> bool
     requires { first + n < 4294967296 }
     ensures { result ≡ rows_placed map.now ws.now (instr_rows first n) }
 {
-    let mut j = 0;
-    while j < n {
+    for j in 0..n {
         let d = input::instr_field(ws, first + j, 2);
         if !maybe_placed(map, d) {
             return false;
         }
-        j += 1;
     }
     true
 }
@@ -272,12 +249,9 @@ fn block_placed(ws: &[u32], map: &[u32], b: u32) -> bool
     }
     let at = input::block_field(ws, b, 2);
     let k = input::block_field(ws, b, 3);
-    if !list_placed(ws, map, at, k) {
-        return false;
-    }
     let first = input::block_field(ws, b, 4);
     let n = input::block_field(ws, b, 5);
-    instrs_placed(ws, map, first, n)
+    list_placed(ws, map, at, k) && instrs_placed(ws, map, first, n)
 }
 
 // Refusal 8 is that a value of the function has none.
@@ -286,12 +260,10 @@ pub fn all_placed(ws: &[u32], map: &[u32]) -> bool
     ensures { result ≡ all_placed map.now (defs_of ws.now) }
 {
     let n = input::head_field(ws, 4);
-    let mut b = 0;
-    while b < n {
+    for b in 0..n {
         if !block_placed(ws, map, b) {
             return false;
         }
-        b += 1;
     }
     true
 }

@@ -51,5 +51,5 @@ returns c =
     let a = c.args in
     let b =
     lent a.ops.now a.spans.now a.globals.now a.builtins.now a.functions.now a.switches.now a.targets.now a.lookups.now a.values.now a.places.now a.hints.now a.noted.now a.labels.now in
-    compiled-then registers a.words.now a.used.now b c.compile-r.result _ c.used_in.ensures _ c.compile-r.ensures
+    compiled-then registers a.words.now a.used.now b c.compile-r.result _ c.used_in-before.ensures _ c.compile-r.ensures
     _ c.answer_compiled.ensures.1 _ c.answer_compiled.ensures.0

@@ -7,6 +7,6 @@ pub returns : goal.returns
 returns c =
     let a = c.args in
     let i = c.emit_columns in
-    let s = c.emitted_numbers-n.ensures in
+    let s = c.numbers_of-n.ensures in
     moved_then registers a.sources.now a.destinations.now a.span a.used.now a.ops.now a.spans.now i.result _ _
-    c.columns_for-c.ensures c.get64.ensures _ _ i.ensures _ s.0 _ s.1 _ c.store_new.ensures
+    c.columns_for-c.ensures c.get_or.ensures _ _ i.ensures _ s.0 _ s.2 _ c.store_new.ensures

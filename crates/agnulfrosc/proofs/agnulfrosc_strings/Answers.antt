@@ -8,5 +8,5 @@ returns c =
     let a = c.args in
     let i = c.intern_strings in
     let s = c.strings_numbers-n.ensures in
-    interned-then registers a.words.now a.ends.now a.globals.now a.answer.now i.result _ c.get64-used.ensures _ i.ensures
+    interned-then registers a.words.now a.ends.now a.globals.now a.answer.now i.result _ c.get_or-used.ensures _ i.ensures
     _ s.0 _ s.1 _ s.2 _ c.store_both.ensures

@@ -5,4 +5,4 @@ use Rattle.agnulfrosc.proofs.columns_for.Goals as goal
 pub returns : goal.returns
 returns c =
     let a = c.args in
-    columns_copied a.sources.now a.destinations.now c.copy32.ensures c.copy32-2.ensures
+    columns_copied a.sources.now a.destinations.now c.copy.ensures c.copy-2.ensures

@@ -5,4 +5,4 @@ use Rattle.answers.proofs.store_both.Goals as goal
 pub returns : goal.returns
 returns c =
     let a = c.args.n in
-    then 1 a.index c.set64-2.ensures c.set64.ensures
+    then 1 a.index c.set-2.ensures c.set.ensures

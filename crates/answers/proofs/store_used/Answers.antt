@@ -5,10 +5,10 @@ use Rattle.answers.proofs.store_used.Goals as goal
 pub returns : goal.returns
 returns c =
     let a = c.args.u in
-    then 6 a.values c.set64-7.ensures
-    (then 5 a.lookups c.set64-6.ensures
-    (then 4 a.targets c.set64-5.ensures
-    (then 3 a.switches c.set64-4.ensures
-    (then 2 a.builtins c.set64-3.ensures
-    (then 1 a.globals c.set64-2.ensures
-    c.set64.ensures)))))
+    then 6 a.values c.set-7.ensures
+    (then 5 a.lookups c.set-6.ensures
+    (then 4 a.targets c.set-5.ensures
+    (then 3 a.switches c.set-4.ensures
+    (then 2 a.builtins c.set-3.ensures
+    (then 1 a.globals c.set-2.ensures
+    c.set.ensures)))))

@@ -1,7 +1,5 @@
--- What is left to pin from j on: each turn takes one step of the run.
-use mathlib.Core.Path.{refl, sym, ap, ◌∙◌}
-use native.Mathlib.Omega.{arith}
-use Prim.Native.Nat.{ℕ, ◌+◌, ◌-◌}
+-- Each turn takes one step of the run.
+use Rattle.std.proofs.Common.{ℕ, ◌+◌, ◌-◌, sym, ap, ◌∙◌}
 use Rattle.input.specs.Layout.{list_at}
 use Rattle.assign.specs.Steps.{pins}
 use Rattle.assign.specs.Walk.{walk, run}
@@ -9,43 +7,26 @@ use Rattle.assign.proofs.Runs.{left_all, pins-turn, pins-end}
 use Rattle.assign.proofs.pin_list.Goals as goal
 
 pub loop-j-init : goal.loop-j-init
-loop-j-init c = let a = c.args in (
-  refl,
-  c.requires.good,
-  λ m. left_all (λ (i k : ℕ). run a.ws.now a.pool.now (pins a.row 0 (list_at a.ws.now i k)) (walk a.s a.map.now a.wish.now m)) a.at a.n,
-)
-
-pub pool_at-v-requires : goal.pool_at-v-requires
-pool_at-v-requires c = tt
-
-pub overflow_cast-j : goal.overflow_cast-j
-overflow_cast-j c = omega (arith, c.loop-j-test.true, c.requires.n_bound)
-
-pub pin_value-t-requires : goal.pin_value-t-requires
-pin_value-t-requires c = c.loop-j.invariant.1
-
-pub overflow_add-j : goal.overflow_add-j
-overflow_add-j c = omega (arith, c.loop-j-test.true)
-
-pub loop-j-smaller : goal.loop-j-smaller
-loop-j-smaller c = omega (arith, c.loop-j-test.true)
+loop-j-init c = let a = c.args in record {
+  good = c.requires.good;
+  left = λ m. left_all (λ (i k : ℕ). run a.ws.now a.pool.now (pins a.row 0 (list_at a.ws.now i k)) (walk a.s a.map.now a.wish.now m)) a.at a.n;
+}
 
 pub loop-j-preserved : goal.loop-j-preserved
 loop-j-preserved c = let a = c.args in
     let l = c.loop-j in
     let ws = a.ws.now in
-    let pool = a.pool.now in (
-      c.pin_value-t.auto.map ∙ l.invariant.0,
-      c.pin_value-t.ensures.good,
-      λ m.
+    let pool = a.pool.now in record {
+      good = c.pin_value-t.ensures.good;
+      left = λ m.
           ap (run ws pool (pins a.row (l.j + 1) (list_at ws (a.at + (l.j + 1)) (a.n - (l.j + 1))))) (rw c.pool_at-v.ensures at (c.pin_value-t.ensures.by_index m))
           ∙ sym (pins-turn ws pool a.row a.at l.j a.n (walk l.t l.map a.wish.now m) c.loop-j-test.true)
-          ∙ l.invariant.2 m,
-    )
-
-pub shape_of-map : goal.shape_of-map
-shape_of-map c = c.loop-j.invariant.0
+          ∙ l.invariant.left m;
+    }
 
 pub returns : goal.returns
 returns c = let a = c.args in
-    let l = c.loop-j in record { good_2 = l.invariant.1; by_index = λ m. sym (pins-end a.ws.now a.pool.now a.row a.at l.j a.n (walk l.t l.map a.wish.now m) c.loop-j-test.false) ∙ l.invariant.2 m }
+    let l = c.loop-j in record {
+      good_2 = l.invariant.good;
+      by_index = λ m. sym (pins-end a.ws.now a.pool.now a.row a.at l.j a.n (walk l.t l.map a.wish.now m) c.loop-j-test.false) ∙ l.invariant.left m;
+    }

@@ -4,4 +4,4 @@ use Rattle.base.proofs.bind_label.Goals as goal
 
 pub returns : goal.returns
 returns c =
-    λ o b. lowers_bind c.args.n c.args.p o b _ _ c.set64.ensures
+    λ o b. lowers_bind c.args.n c.args.p o b _ _ c.set.ensures

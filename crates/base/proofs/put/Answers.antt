@@ -2,9 +2,9 @@
 use Rattle.base.proofs.Pens.{lowers_emit, lowers_over}
 use Rattle.base.proofs.put.Goals as goal
 
-pub returns-then-at-room : goal.returns-then-at-room
-returns-then-at-room c =
-    λ l. lowers_emit c.args.w c.args.p _ _ l _ _ c.if-at-room.true c.set64.ensures c.set32.ensures
+pub returns-then-p : goal.returns-then-p
+returns-then-p c =
+    λ l. lowers_emit c.args.w c.args.p _ _ l _ _ c.if-p.true c.set.ensures c.set-then-p.ensures
 
-pub returns-else-at-room : goal.returns-else-at-room
-returns-else-at-room c = λ l. lowers_over c.args.w c.args.p _ _ l c.if-at-room.false
+pub returns-else-p : goal.returns-else-p
+returns-else-p c = λ l. lowers_over c.args.w c.args.p _ _ l c.if-p.false

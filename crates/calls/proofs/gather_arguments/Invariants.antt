@@ -1,7 +1,5 @@
 -- What stands in the columns and the moves of the arguments from j on make up the whole.
-use mathlib.Core.Path.{◌≡◌}
 use Prim.Native.Nat.{◌+◌, ◌-◌, ◌≤◌}
-use lib.ListN.{length}
 use Rattle.input.specs.Layout.{list_at}
 use Rattle.edges.proofs.Columns.{Toward}
 use Rattle.calls.proofs.Shuffling.{shuffled_from, shuffled_to}
@@ -9,9 +7,6 @@ use Rattle.calls.proofs.gather_arguments.Given as goal
 
 abbrev pub invariant-loop-j : goal.invariant-loop-j
 invariant-loop-j l =
-    (l.m ≤ l.j) × (l.j ≤ l.count) × (length l.src ≡ length l.initial.src) × (length l.dst ≡ length l.initial.dst)
+    (l.m ≤ l.j)
     × Toward (shuffled_from l.ws l.map l.pushes l.j (list_at l.ws (l.at + l.j) (l.count - l.j))) (shuffled_from l.ws l.map l.pushes 0 (list_at l.ws l.at l.count)) l.src l.m
     × Toward (shuffled_to l.ws l.map l.pushes l.j (list_at l.ws (l.at + l.j) (l.count - l.j))) (shuffled_to l.ws l.map l.pushes 0 (list_at l.ws l.at l.count)) l.dst l.m
-
-abbrev pub decreases-loop-j : goal.decreases-loop-j
-decreases-loop-j l = l.count - l.j

@@ -1,15 +1,7 @@
 -- The shuffle, then Tail, or the op that calls and Ret.
-use Prim.Native.Nat.{ℕ, ◌+◌, ◌<◌}
-use native.Mathlib.Omega.{arith}
 use Rattle.place.specs.Registers.{registers}
-use Rattle.input.specs.Layout.{pool_at}
 use Rattle.calls.proofs.Calling.{tail_taken, tail-called}
 use Rattle.calls.proofs.put_tail.Goals as goal
-
-pub put_shuffle-ready-requires : goal.put_shuffle-ready-requires
-put_shuffle-ready-requires c =
-    let a = c.args in
-    (c.requires, λ (i : ℕ) (h : i < a.count). omega (arith, c.type_inv.map (pool_at a.ws.now (a.at + i))))
 
 pub returns-then-takes_over : goal.returns-then-takes_over
 returns-then-takes_over c =

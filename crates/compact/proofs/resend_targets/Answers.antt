@@ -1,28 +1,18 @@
--- The first i entries are sent on: a turn sends one more.
-use mathlib.Core.Path.{◌≡◌, refl}
+-- The first entries are sent on: a turn sends one more.
+use mathlib.Core.Path.{◌∙◌}
 use native.Mathlib.Omega.{arith}
-use lib.ListN.{length-set}
 use Rattle.compact.specs.Steps.{sent_by}
-use Rattle.compact.proofs.Turns.{map_next}
+use Rattle.compact.proofs.Turns.{map_next, map_whole}
 use Rattle.compact.proofs.resend_targets.Goals as goal
 
-pub loop-i-init : goal.loop-i-init
-loop-i-init c = (refl, omega arith, refl)
-
-pub overflow_cast-targets : goal.overflow_cast-targets
-overflow_cast-targets c = omega (arith, c.type_inv.targets c.loop-i.i)
-
-pub loop-i-preserved : goal.loop-i-preserved
-loop-i-preserved c =
-    let s = c.loop-i in
+pub loop-t-preserved : goal.loop-t-preserved
+loop-t-preserved c =
+    let s = c.loop-t in
     let a = c.args in
-    (simp length-set s.invariant.0, omega arith, map_next (sent_by a.work.now) a.targets.now s.targets s.i c.get32.result (omega arith) s.invariant.2 c.get32.ensures)
-
-pub shape_of-targets : goal.shape_of-targets
-shape_of-targets c = c.loop-i.invariant.0
+    map_next (sent_by a.work.now) a.targets.now s.targets s.t-index c.get_or.result (omega arith) s.invariant c.get_or.ensures
 
 pub returns : goal.returns
 returns c =
-    let s = c.loop-i in
-    let e : s.i ≡ c.args.count = omega arith in
-    rw e at s.invariant.2
+    let s = c.loop-t in
+    let a = c.args in
+    s.invariant ∙ map_whole (sent_by a.work.now) a.targets.now s.t-index (omega arith)

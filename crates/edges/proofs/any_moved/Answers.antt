@@ -1,10 +1,7 @@
 -- The pairs that are left answer for all of them.
 use mathlib.Core.Path.{sym, ◌∙◌}
-use Rattle.edges.proofs.Moved.{some-start, some-here, some-later, some_none}
+use Rattle.edges.proofs.Moved.{some-here, some-later, some_none}
 use Rattle.edges.proofs.any_moved.Goals as goal
-
-pub loop-j-init : goal.loop-j-init
-loop-j-init c = let a = c.args in some-start a.ws.now a.map.now a.at a.to a.n
 
 pub returns-then-is_moved : goal.returns-then-is_moved
 returns-then-is_moved c =

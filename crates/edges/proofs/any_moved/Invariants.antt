@@ -1,11 +1,7 @@
 -- The pairs that are left answer for all of them.
 use mathlib.Core.Path.{◌≡◌}
-use Prim.Native.Nat.{◌-◌}
 use Rattle.edges.proofs.Moved.{some_from, some_of}
 use Rattle.edges.proofs.any_moved.Given as goal
 
 abbrev pub invariant-loop-j : goal.invariant-loop-j
 invariant-loop-j l = some_from l.ws l.map l.at l.to l.n l.j ≡ some_of l.ws l.map l.at l.to l.n
-
-abbrev pub decreases-loop-j : goal.decreases-loop-j
-decreases-loop-j l = l.n - l.j

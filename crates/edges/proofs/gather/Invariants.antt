@@ -1,7 +1,5 @@
 -- What stands in the columns and the moves of the pairs from j on make up the whole.
-use mathlib.Core.Path.{◌≡◌}
 use Prim.Native.Nat.{◌+◌, ◌-◌, ◌≤◌}
-use lib.ListN.{length}
 use Rattle.input.specs.Layout.{list_at}
 use Rattle.edges.proofs.Columns.{Toward}
 use Rattle.edges.proofs.Moved.{moved_from, moved_to}
@@ -9,9 +7,6 @@ use Rattle.edges.proofs.gather.Given as goal
 
 abbrev pub invariant-loop-j : goal.invariant-loop-j
 invariant-loop-j l =
-    (l.m ≤ l.j) × (l.j ≤ l.n) × (length l.src ≡ length l.initial.src) × (length l.dst ≡ length l.initial.dst)
+    (l.m ≤ l.j)
     × Toward (moved_from l.ws l.map (list_at l.ws (l.at + l.j) (l.n - l.j)) (list_at l.ws (l.to + l.j) (l.n - l.j))) (moved_from l.ws l.map (list_at l.ws l.at l.n) (list_at l.ws l.to l.n)) l.src l.m
     × Toward (moved_to l.ws l.map (list_at l.ws (l.at + l.j) (l.n - l.j)) (list_at l.ws (l.to + l.j) (l.n - l.j))) (moved_to l.ws l.map (list_at l.ws l.at l.n) (list_at l.ws l.to l.n)) l.dst l.m
-
-abbrev pub decreases-loop-j : goal.decreases-loop-j
-decreases-loop-j l = l.n - l.j

@@ -4,18 +4,12 @@ use native.Mathlib.Omega.{arith}
 use Rattle.edges.proofs.Moved.{edge-from, edge_to}
 use Rattle.edges.proofs.gather_edge.Goals as goal
 
-pub gather-requires : goal.gather-requires
-gather-requires c =
-    let s = c.requires in
-    let m = rw c.edge_field-target.ensures at c.block_field-parameters.ensures in
-    (omega (arith, s.0, s.2, c.shorter.ensures), omega (arith, s.1, s.2, c.shorter.ensures))
-
 pub returns : goal.returns
 returns c =
     let a = c.args in
     let t = c.edge_field-target.ensures in
     let m = rw t at c.block_field-parameters.ensures in
-    let n = rw (c.edge_field-arguments.ensures, m) at c.shorter.ensures in
+    let n = rw (c.edge_field-arguments.ensures, m) at c.min.ensures in
     let at = c.edge_field-at.ensures in
     let to = rw t at c.block_field-to.ensures in
     let r = c.gather.ensures in (

@@ -1,24 +1,9 @@
 -- What is counted and what is left to count make up the whole.
 use mathlib.Core.Path.{sym, ◌∙◌}
 use native.Mathlib.Omega.{arith}
-use Rattle.edges.proofs.Padding.{count-start, count_pad, count_skip, count-end}
+use Rattle.edges.proofs.Padding.{count_pad, count_skip, count-end}
 use Rattle.edges.proofs.pad_count.Goals as goal
 use Rattle.edges.proofs.pad_count.Goals.{then-has_moves, else-has_moves}
-
-pub loop-i-init : goal.loop-i-init
-loop-i-init c = let a = c.args in (omega arith, omega arith, omega (arith, count-start a.ws.now a.map.now a.e a.k))
-
-pub overflow_add-e : goal.overflow_add-e
-overflow_add-e c = omega arith
-
-pub overflow_add-count : goal.overflow_add-count
-overflow_add-count c = omega arith
-
-pub overflow_add-i : goal.overflow_add-i
-overflow_add-i c = omega arith
-
-pub loop-i-smaller : goal.loop-i-smaller
-loop-i-smaller c = omega arith
 
 pub loop-i-preserved : goal.loop-i-preserved
 loop-i-preserved c =
@@ -29,14 +14,14 @@ loop-i-preserved c =
     elim c.if-has_moves.branch [
       | then-has_moves w ↦
           let t = count_pad a.ws.now a.map.now a.e a.k l.i h (sym m ∙ w.if-has_moves.true) in
-          (omega (arith, w.count-is), omega (arith, w.count-is), omega (arith, l.invariant.2, w.count-is))
+          (omega (arith, w.count-is), omega (arith, l.invariant.1, w.count-is))
       | else-has_moves w ↦
           let t = count_skip a.ws.now a.map.now a.e a.k l.i h (sym m ∙ w.if-has_moves.false) in
-          (omega (arith, w.count-is), omega (arith, w.count-is), omega (arith, l.invariant.2, w.count-is))
+          (omega (arith, w.count-is), omega (arith, l.invariant.1, w.count-is))
     ]
 
 pub returns : goal.returns
 returns c =
     let a = c.args in
     let l = c.loop-i in
-    omega (arith, l.invariant.2, count-end a.ws.now a.map.now a.e a.k l.i c.loop-i-test.false)
+    omega (arith, l.invariant.1, count-end a.ws.now a.map.now a.e a.k l.i c.loop-i-test.false)

@@ -4,10 +4,6 @@ use Rattle.place.specs.Registers.{registers}
 use Rattle.edges.proofs.Emitting.{branch-plain, branch-moves}
 use Rattle.edges.proofs.put_branch.Goals as goal
 
-pub put_edge-requires : goal.put_edge-requires
-put_edge-requires c =
-    c.requires.0
-
 pub returns-then-has_moves : goal.returns-then-has_moves
 returns-then-has_moves c =
     let a = c.args in

@@ -1,7 +1,5 @@
 -- What is emitted and the pads that are left make up the whole: a label and an edge for a case with moves, nothing for one without.
-use mathlib.Core.Path.{◌≡◌}
-use Prim.Native.Nat.{◌+◌, ◌-◌, ◌≤◌}
-use lib.ListN.{length}
+use Prim.Native.Nat.{◌+◌, ◌≤◌}
 use Rattle.base.proofs.Pens.{Left}
 use Rattle.place.specs.Registers.{registers}
 use Rattle.edges.specs.Edges.{pads}
@@ -10,8 +8,5 @@ use Rattle.edges.proofs.put_pads.Given as goal
 
 abbrev pub invariant-loop-i : goal.invariant-loop-i
 invariant-loop-i l =
-    (l.i ≤ l.k) × (l.pad ≤ l.label + l.i) × (length l.ops ≡ length l.initial.ops) × (length l.spans ≡ length l.initial.spans) × (length l.labels ≡ length l.initial.labels)
+    (l.pad ≤ l.label + l.i)
     × Left (pads_from l.ws l.map l.e registers l.k l.pad l.i) (pads registers l.ws l.map l.label l.e l.k) l.initial.ops l.initial.spans l.initial.labels l.initial.q l.ops l.spans l.labels l.q
-
-abbrev pub decreases-loop-i : goal.decreases-loop-i
-decreases-loop-i l = l.k - l.i

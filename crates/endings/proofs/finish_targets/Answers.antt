@@ -1,13 +1,8 @@
--- Resolved only with no refusal; else the slots stay.
-use mathlib.Core.Path.{refl}
+-- Turn by turn a slot that is a label becomes its pc.
+use Rattle.endings.proofs.Relabels.{relabels_turn}
 use Rattle.endings.proofs.finish_targets.Goals as goal
 
-pub resolve_targets-requires : goal.resolve_targets-requires
-resolve_targets-requires c = c.requires c.if-k-eq0.true
-
-pub returns-then-k-eq0 : goal.returns-then-k-eq0
-returns-then-k-eq0 c =
-    ((λ e. c.resolve_targets.ensures), (λ z. absurd (z c.if-k-eq0.true)))
-
-pub returns-else-k-eq0 : goal.returns-else-k-eq0
-returns-else-k-eq0 c = ((λ e. absurd (c.if-k-eq0.false e)), (λ z. refl))
+pub loop-i-preserved : goal.loop-i-preserved
+loop-i-preserved c = let a = c.args in
+    let s = c.loop-i in
+    relabels_turn a.labels.now a.targets.now a.from a.end s.i s.targets _ s.invariant c.loop-i-test.true c.get_or.ensures

@@ -1,14 +1,13 @@
 -- The test of the kind is the definition's.
-use Rattle.std.proofs.Common.{sym, ◌∙◌, eq-eqb, ne_eqb}
+use Rattle.std.proofs.Common.{rules}
+use borrow.Author.Tests.{tests}
 use Rattle.fit.specs.Callees.{row_callee}
 use Rattle.fit.proofs.callee_instr.Goals as goal
 
 pub returns-then-instr_field-ne-CALL : goal.returns-then-instr_field-ne-CALL
 unfolding row_callee
-returns-then-instr_field-ne-CALL c = λ r. rw (ne_eqb _ _ (λ e. c.if-instr_field-ne-CALL.true (c.instr_field.ensures ∙ e)))
+returns-then-instr_field-ne-CALL c = search (rules, tests)
 
-pub returns : goal.returns
+pub returns-else-instr_field-ne-CALL : goal.returns-else-instr_field-ne-CALL
 unfolding row_callee
-returns c =
-    λ r. rw (eq-eqb _ _ (sym c.instr_field.ensures ∙ c.if-instr_field-ne-CALL.false))
-    (rw c.instr_field-f.ensures at c.is_known.ensures)
+returns-else-instr_field-ne-CALL c = search (rules, tests)

@@ -1,17 +1,14 @@
--- The destination, as a list of none or one, is defined.
-use Rattle.std.proofs.Common.{sym, ◌∙◌}
+-- A destination as a list of none or one.
+use Rattle.std.proofs.Common.{rules}
+use borrow.Author.Tests.{tests}
 use Rattle.rows.specs.Rows.{row_defs}
 use Rattle.fit.proofs.Filling.{marked_none, marked-some}
 use Rattle.fit.proofs.define_instr.Goals as goal
 
 pub returns-then-d-eq0 : goal.returns-then-d-eq0
 unfolding row_defs
-returns-then-d-eq0 c = sym (marked_none c.args.r _ _ (sym c.instr_field-d.ensures ∙ c.if-d-eq0.true))
+returns-then-d-eq0 c = search (rules, tests, marked_none, marked-some)
 
-pub returns : goal.returns
+pub returns-else-d-eq0 : goal.returns-else-d-eq0
 unfolding row_defs
-returns c =
-    let a = c.args in
-    let d = c.instr_field-d in
-    rw d.ensures at c.define.ensures
-    ∙ sym (marked-some a.r _ _ (λ e. c.if-d-eq0.false (d.ensures ∙ e)))
+returns-else-d-eq0 c = search (rules, tests, marked_none, marked-some)

@@ -9,6 +9,3 @@ abbrev pub invariant-loop-j : goal.invariant-loop-j
 invariant-loop-j l =
     (length l.table ≡ length l.initial.table)
     × (marked (refs l.r (list_at l.ws (l.at + l.j) (l.n - l.j))) (marks l.table true) ≡ marked (refs l.r (list_at l.ws l.at l.n)) (marks l.initial.table true))
-
-abbrev pub decreases-loop-j : goal.decreases-loop-j
-decreases-loop-j l = l.n - l.j

@@ -11,5 +11,5 @@ returns c =
     let n = c.edge_at-n in
     let to = c.block_field-to in
     let m = c.block_field-m in
-    λ ds t. rw (at.ensures, to.ensures, c.shorter.ensures, n.ensures, m.ensures, target.ensures) at (c.fit_args.ensures ds t)
+    λ ds t. rw (at.ensures, to.ensures, c.min.ensures, n.ensures, m.ensures, target.ensures) at (c.fit_args.ensures ds t)
     ∙ sym (args_paired a.ws.now ds a.r _ _ _ _)

@@ -1,24 +1,11 @@
--- A value's row and 1 stands in the table: each return rewrites the definition by the tests of that word.
-use Rattle.std.proofs.Common.{◌<◌, sym, arith, lt-ltb, le-leb}
-use borrow.Author.Tests.{lt-leb}
+-- A value's row and 1 stands in the table: each answer is the definition by the tests of that word.
+use Rattle.std.proofs.Common.{rules}
+use borrow.Author.Tests.{tests}
 use Rattle.fit.proofs.Checks.{use_tabled}
 use Rattle.fit.proofs.fit_use.Goals as goal
 
-pub returns-then-next-eq0 : goal.returns-then-next-eq0
-returns-then-next-eq0 c =
-    let a = c.args in
-    λ ds t. rw (use_tabled a.ws.now a.rows.now ds a.r a.v t, sym c.get32-next.ensures, c.if-next-eq0.true)
+pub returns-then-next-r : goal.returns-then-next-r
+returns-then-next-r c = λ ds t. rw (use_tabled c.args.ws.now c.args.rows.now ds c.args.r c.args.v t) (search (rules, tests))
 
-pub returns-then-r-next : goal.returns-then-r-next
-returns-then-r-next c =
-    let a = c.args in
-    let word = c.get32-next in
-    let h : 0 < word.result = omega arith in
-    λ ds t. rw (use_tabled a.ws.now a.rows.now ds a.r a.v t, sym word.ensures, lt-ltb _ _ h, lt-leb _ _ c.if-r-next.true)
-
-pub returns : goal.returns
-returns c =
-    let a = c.args in
-    let word = c.get32-next in
-    let h : 0 < word.result = omega arith in
-    λ ds t. rw (use_tabled a.ws.now a.rows.now ds a.r a.v t, sym word.ensures, lt-ltb _ _ h, le-leb _ _ c.if-r-next.false, sym c.value_field-end.ensures)
+pub returns-else-next-r : goal.returns-else-next-r
+returns-else-next-r c = λ ds t. rw (use_tabled c.args.ws.now c.args.rows.now ds c.args.r c.args.v t) (search (rules, tests))

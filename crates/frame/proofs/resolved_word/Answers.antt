@@ -1,15 +1,11 @@
 -- A law for a jump and one for another op.
-use native.Mathlib.Omega.{arith}
 use Rattle.frame.proofs.Resolving.{word-jump, word_other}
 use Rattle.frame.proofs.resolved_word.Goals as goal
-
-pub overflow_cast-pc : goal.overflow_cast-pc
-overflow_cast-pc c = omega (arith, c.get64-pc.ensures, c.requires c.target_of.result)
 
 pub returns-then-is_jump : goal.returns-then-is_jump
 returns-then-is_jump c =
     word-jump _ _ _ _ c.unpack-o.ensures c.is_jump.ensures _ _ _ _ c.if-is_jump.true c.target_of.ensures
-    c.get64-pc.ensures c.aimed.ensures c.pack.ensures
+    c.get_or-pc.ensures c.aimed.ensures c.pack.ensures
 
 pub returns : goal.returns
 returns c = word_other _ _ _ _ c.unpack-o.ensures c.is_jump.ensures c.if-is_jump.false

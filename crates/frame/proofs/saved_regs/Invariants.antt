@@ -2,13 +2,10 @@
 use mathlib.Core.Path.{◌≡◌}
 use Prim.Native.Nat.{◌+◌, ◌-◌, ◌≤◌}
 use mathlib.Core.List.{◌++◌}
-use lib.ListN.{length, take}
+use lib.ListN.{take}
 use Rattle.frame.specs.Frames.{regs_from}
 use Rattle.frame.proofs.saved_regs.Given as goal
 
 abbrev pub invariant-loop-r : goal.invariant-loop-r
-invariant-loop-r l = (l.k + l.initial.r ≡ l.r) × (l.k ≤ l.top) × (length l.regs ≡ length l.initial.regs)
+invariant-loop-r l = (l.k + l.initial.r ≡ l.r) × (l.k ≤ l.top)
     × (take l.k l.regs ++ regs_from l.r (l.top - l.r) ≡ regs_from l.initial.r (l.top - l.initial.r))
-
-abbrev pub decreases-loop-r : goal.decreases-loop-r
-decreases-loop-r l = l.top - l.r

@@ -1,8 +1,5 @@
 -- What is left to hint from j on: each turn takes one step of the run.
-use mathlib.Core.List.{List}
-use mathlib.Core.Path.{◌≡◌}
-use Prim.Native.Nat.{ℕ, ◌+◌, ◌-◌}
-use lib.ListN.{length}
+use Rattle.std.proofs.Common.{◌≡◌, ℕ, ◌+◌, ◌-◌, List}
 use Rattle.alloc.specs.declared.Alloc.{Alloc}
 use Rattle.input.specs.Layout.{list_at}
 use Rattle.assign.specs.Steps.{hints}
@@ -10,8 +7,4 @@ use Rattle.assign.specs.Walk.{walk, run}
 use Rattle.hints.proofs.hint_list.Given as goal
 
 abbrev pub invariant-loop-j : goal.invariant-loop-j
-invariant-loop-j l = (length l.wish ≡ length l.initial.wish)
-    × ((s : Alloc) (pool k : List ℕ) → run l.ws pool (hints (list_at l.ws (l.a + l.j) (l.n - l.j)) (list_at l.ws (l.p + l.j) (l.m - l.j))) (walk s l.map l.wish k) ≡ run l.ws pool (hints (list_at l.ws l.a l.n) (list_at l.ws l.p l.m)) (walk s l.map l.initial.wish k))
-
-abbrev pub decreases-loop-j : goal.decreases-loop-j
-decreases-loop-j l = l.n - l.j
+invariant-loop-j l = (s : Alloc) (pool k : List ℕ) → run l.ws pool (hints (list_at l.ws (l.a + l.j) (l.n - l.j)) (list_at l.ws (l.p + l.j) (l.m - l.j))) (walk s l.map l.wish k) ≡ run l.ws pool (hints (list_at l.ws l.a l.n) (list_at l.ws l.p l.m)) (walk s l.map l.initial.wish k)

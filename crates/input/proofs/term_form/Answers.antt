@@ -7,10 +7,10 @@ use Rattle.input.specs.Forms.{term_forms}
 use Rattle.input.proofs.Rows.{row_field}
 use Rattle.input.proofs.term_form.Goals as goal
 
-pub returns-then-kind-lt8 : goal.returns-then-kind-lt8
+pub returns-then-kind-lt-COUNT : goal.returns-then-kind-lt-COUNT
 unfolding term_forms
-returns-then-kind-lt8 c = row_field 6 8 term_forms _ _ c.if-kind-lt8.true c.requires
+returns-then-kind-lt-COUNT c = row_field 6 8 term_forms _ _ c.if-kind-lt-COUNT.true c.requires
 
-pub returns-else-kind-lt8 : goal.returns-else-kind-lt8
+pub returns-else-kind-lt-COUNT : goal.returns-else-kind-lt-COUNT
 unfolding term_forms
-returns-else-kind-lt8 c = let h : 48 ≤ 6 * c.args.kind + c.args.k = omega arith in sym (get_or-eq_default term_forms 0 h)
+returns-else-kind-lt-COUNT c = let h : 48 ≤ 6 * c.args.kind + c.args.k = omega arith in sym (get_or-eq_default term_forms 0 h)

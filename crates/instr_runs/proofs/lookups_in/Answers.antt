@@ -1,25 +1,12 @@
--- The lookups before instruction i + j and those of the rest are the whole.
+-- The lookups before instruction j and those of the rest are the whole.
 use native.Mathlib.Omega.{arith}
-use Rattle.instr_runs.proofs.Lookups.{one_at_most, lookups_first, lookups_on, lookups_none}
+use Rattle.instr_runs.proofs.Lookups.{one_at_most, lookups_on, lookups_none}
 use Rattle.instr_runs.proofs.lookups_in.Goals as goal
 
-pub loop-j-init : goal.loop-j-init
-loop-j-init c = (omega arith, omega arith, lookups_first _ _ _)
-
-pub overflow_add-i : goal.overflow_add-i
-overflow_add-i c = omega (arith, c.requires)
-
-pub overflow_add-n : goal.overflow_add-n
-overflow_add-n c = omega (arith, one_at_most _ _ c.lookup_count-n.ensures)
-
-pub overflow_add-j : goal.overflow_add-j
-overflow_add-j c = omega arith
-
-pub loop-j-smaller : goal.loop-j-smaller
-loop-j-smaller c = omega arith
-
 pub loop-j-preserved : goal.loop-j-preserved
-loop-j-preserved c = (omega arith, omega (arith, one_at_most _ _ c.lookup_count-n.ensures), lookups_on _ _ _ _ _ c.lookup_count-n.ensures c.loop-j-test.true c.loop-j.invariant.2)
+loop-j-preserved c =
+    let v = c.loop-j.invariant in
+    (omega (arith, one_at_most _ _ c.lookup_count-n.ensures, v.0), lookups_on _ _ _ _ v.1 c.lookup_count-n.ensures c.loop-j-test.true)
 
 pub returns : goal.returns
-returns c = (lookups_none _ _ _ _ _ c.loop-j-test.false c.loop-j.invariant.2, omega arith)
+returns c = (lookups_none _ _ _ _ c.loop-j.invariant.1 c.loop-j-test.false, omega (arith, c.loop-j.invariant.0, c.loop-j.auto.j-end))

@@ -1,5 +1,6 @@
 -- The chain of the definition at the kind that was found.
 use mathlib.Core.Path.{sym, ◌∙◌}
+use Rattle.std.proofs.Common.{rules}
 use native.Mathlib.Omega.{arith}
 use Rattle.place.specs.Registers.{registers}
 use Rattle.input.specs.Forms.{instr_forms}
@@ -10,39 +11,39 @@ use Rattle.instr_runs.proofs.put_memory.Goals as goal
 
 pub overflow_cast-x : goal.overflow_cast-x
 unfolding instr_forms
-overflow_cast-x c = omega (arith, x_most _ _ 6 c.requires c.instr_field-kind.ensures c.if-kind-eq-ALLOC.true c.instr_field-x.ensures)
+overflow_cast-x c = omega (arith, x_most _ _ 6 c.requires c.instr_field.ensures c.in-6.is c.instr_field-x.ensures)
 
 pub overflow_cast-z : goal.overflow_cast-z
 unfolding instr_forms
-overflow_cast-z c = omega (arith, z_most _ _ 6 c.requires c.instr_field-kind.ensures c.if-kind-eq-ALLOC.true c.instr_field-z.ensures)
+overflow_cast-z c = omega (arith, z_most _ _ 6 c.requires c.instr_field.ensures c.in-6.is c.instr_field-z.ensures)
 
-pub returns-then-kind-eq-ALLOC : goal.returns-then-kind-eq-ALLOC
+pub returns-in-6 : goal.returns-in-6
 unfolding memory_ops
-returns-then-kind-eq-ALLOC c =
+returns-in-6 c =
     λ l.
-    rw (sym c.instr_field-kind.ensures ∙ c.if-kind-eq-ALLOC.true)
+    rw (sym c.instr_field.ensures ∙ c.in-6.is)
     (of_4 (lower_alloc registers) c.dest_place-d.ensures c.instr_field-x.ensures c.instr_field-y.ensures c.instr_field-z.ensures (c.put_alloc.ensures l))
 
-pub returns-then-kind-eq-STORE : goal.returns-then-kind-eq-STORE
+pub returns-in-7 : goal.returns-in-7
 unfolding memory_ops
-returns-then-kind-eq-STORE c =
+returns-in-7 c =
     λ l.
-    rw (sym c.instr_field-kind.ensures ∙ c.if-kind-eq-STORE.true)
+    rw (sym c.instr_field.ensures ∙ c.in-7.is)
     (of_3 (lower_store registers) c.operand_place-a.ensures c.operand_place-b.ensures c.instr_field-y.ensures (c.put_store_to.ensures l))
 
-pub returns-then-kind-eq-LOAD : goal.returns-then-kind-eq-LOAD
+pub returns-in-9 : goal.returns-in-9
 unfolding memory_ops
-returns-then-kind-eq-LOAD c =
+returns-in-9 c =
     λ l.
-    rw (sym c.instr_field-kind.ensures ∙ c.if-kind-eq-LOAD.true)
+    rw (sym c.instr_field.ensures ∙ c.in-9.is)
     (of_3 (lower_load registers) c.dest_place-d.ensures c.operand_place-a.ensures c.instr_field-y.ensures (c.put_load.ensures l))
 
-pub returns-then-kind-eq-ADDR_OF : goal.returns-then-kind-eq-ADDR_OF
+pub returns-in-10 : goal.returns-in-10
 unfolding memory_ops
-returns-then-kind-eq-ADDR_OF c =
+returns-in-10 c =
     λ l.
-    rw (sym c.instr_field-kind.ensures ∙ c.if-kind-eq-ADDR_OF.true)
+    rw (sym c.instr_field.ensures ∙ c.in-10.is)
     (of_3 (lower_addr_of registers) c.dest_place-d.ensures c.operand_place-a.ensures c.instr_field-y.ensures (c.put_addr_of.ensures l))
 
-pub returns : goal.returns
-returns c = λ l. memory_none _ _ _ _ _ c.instr_field-kind.ensures (c.if-kind-eq-ALLOC.false, c.if-kind-eq-STORE.false, c.if-kind-eq-LOAD.false, c.if-kind-eq-ADDR_OF.false)
+pub returns-in_default : goal.returns-in_default
+returns-in_default c = λ l. memory_none _ _ _ _ _ c.instr_field.ensures (search rules)

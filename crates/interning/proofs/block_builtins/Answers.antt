@@ -1,6 +1,5 @@
 -- A tombstone has no rows; of a live block only instructions have builtins.
 use mathlib.Core.Path.{sym, ◌∙◌}
-use native.Mathlib.Omega.{arith}
 use borrow.Author.Tests.{eq-eqb, ne_eqb}
 use Rattle.interning.specs.Interning.{row_builtins}
 use Rattle.interning.proofs.Passes.{block_dead, block-live}
@@ -11,10 +10,6 @@ pub returns-then-block_field-ne0 : goal.returns-then-block_field-ne0
 returns-then-block_field-ne0 c =
     let a = c.args in
     block_dead builtins_in_turn (row_builtins a.ws.now) a.ws.now a.b _ _ (ne_eqb _ 0 (λ z. c.if-block_field-ne0.true (c.block_field.ensures ∙ z)))
-
-pub instrs_builtins-requires : goal.instrs_builtins-requires
-instrs_builtins-requires c =
-    omega (arith, c.block_field-first.ensures, c.block_field-n.ensures, c.requires (eq-eqb _ 0 (sym c.block_field.ensures ∙ c.if-block_field-ne0.false)))
 
 pub returns : goal.returns
 returns c =

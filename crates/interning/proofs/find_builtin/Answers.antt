@@ -1,21 +1,15 @@
--- The builtins from the i-th on decide which it is.
-use Rattle.interning.proofs.Found.{builtin_start, builtin_here, builtin_on, builtin_end}
+-- The place of the first that is it.
+use native.Mathlib.Omega.{arith}
+use lib.Dec.{eqb}
+use lib.ListN.{take, length-take}
+use Rattle.std.proofs.Common.{rules, tests}
+use Rattle.std.proofs.lemmas.Iterator.{YieldsList-from_slice}
+use Rattle.std.proofs.lemmas.Iterator.Search.{position_from_yields_List}
+use Rattle.interning.proofs.Found.{builtin_or_count}
 use Rattle.interning.proofs.find_builtin.Goals as goal
-
-pub loop-i-init : goal.loop-i-init
-loop-i-init c = builtin_start c.args.x c.args.builtins.now c.args.count
-
-pub returns-then-builtins-i : goal.returns-then-builtins-i
-returns-then-builtins-i c =
-    let a = c.args in
-    builtin_here a.x a.builtins.now a.count c.loop-i.i c.loop-i-test.true c.requires c.if-builtins-i.true c.loop-i.invariant
-
-pub loop-i-preserved : goal.loop-i-preserved
-loop-i-preserved c =
-    let a = c.args in
-    builtin_on a.x a.builtins.now a.count c.loop-i.i c.loop-i-test.true c.requires c.if-builtins-i.false c.loop-i.invariant
 
 pub returns : goal.returns
 returns c =
-    let a = c.args in
-    builtin_end a.x a.builtins.now a.count c.loop-i.i c.loop-i-test.false c.loop-i.invariant
+    let l = take c.args.count c.args.builtins.now in
+    let p = position_from_yields_List (λ y. eqb y c.args.x) _ _ c.position.result c.position.ensures.ran (YieldsList-from_slice l cc) (λ x b q k. search (rules, tests)) in
+    rw (c.unwrap_or.ensures, p) (builtin_or_count c.args.x l c.args.count (simp length-take (omega arith)))

@@ -19,4 +19,4 @@ loop-i-preserved c =
 pub returns : goal.returns
 returns c =
     let a = c.args in
-    global_end a.kind a.payload a.globals.now a.count c.loop-i.i c.loop-i-test.false c.loop-i.invariant
+    global_end a.kind a.payload a.globals.now a.count c.loop-i.i c.loop-i-test.false c.loop-i.auto.i-end c.loop-i.invariant

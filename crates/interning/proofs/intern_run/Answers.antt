@@ -1,33 +1,19 @@
--- The constants that are left.
-use mathlib.Core.Path.{refl, ◌∙◌}
-use native.Mathlib.Omega.{arith}
-use Rattle.grow.proofs.Growing.{left_as}
-use Rattle.interning.proofs.Interned.{run-turn, run_end}
+-- The constants from c on are left.
+use Rattle.interning.specs.Asked.{asked_by}
+use Rattle.interning.proofs.Interned.{run_start, run-turn, run_end}
 use Rattle.interning.proofs.intern_run.Goals as goal
 
-pub loop-left-init : goal.loop-left-init
-loop-left-init c = (refl, refl, left_as (λ l. refl))
-
-pub intern_one-f-requires : goal.intern_one-f-requires
-intern_one-f-requires c = omega (arith, c.loop-left.invariant.1, c.loop-left-test.true, c.requires)
-
-pub overflow_add-c : goal.overflow_add-c
-overflow_add-c c = omega (arith, c.loop-left.invariant.1, c.loop-left-test.true, c.requires)
-
-pub loop-left-preserved : goal.loop-left-preserved
-loop-left-preserved c =
+pub loop-c-init : goal.loop-c-init
+loop-c-init c =
     let a = c.args in
-    let l = c.loop-left in (
-      c.intern_one-f.auto.globals ∙ l.invariant.0,
-      omega (arith, l.invariant.1, c.loop-left-test.true),
-      run-turn a.strings a.ws.now a.first a.n l.c l.left l.invariant.2 c.loop-left-test.true c.intern_one-f.ensures,
-    )
+    run_start (asked_by a.asked) a.ws.now a.first a.n _ _
 
-pub shape_of-globals : goal.shape_of-globals
-shape_of-globals c = c.loop-left.invariant.0
+pub loop-c-preserved : goal.loop-c-preserved
+loop-c-preserved c =
+    let a = c.args in
+    run-turn (asked_by a.asked) a.ws.now a.first a.n c.loop-c.c c.loop-c-test.true c.loop-c.invariant c.intern_one-f.ensures
 
 pub returns : goal.returns
 returns c =
     let a = c.args in
-    let l = c.loop-left in
-    run_end a.strings a.ws.now a.first a.n l.c l.left l.invariant.2 c.loop-left-test.false
+    run_end (asked_by a.asked) a.ws.now a.first a.n c.loop-c.c c.loop-c-test.false c.loop-c.invariant

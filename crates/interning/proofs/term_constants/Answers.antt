@@ -4,16 +4,14 @@ use native.Mathlib.Omega.{arith}
 use Rattle.interning.proofs.Interned.{switches_none, switches_left, switches_all}
 use Rattle.interning.proofs.term_constants.Goals as goal
 
-pub returns-then-not-strings : goal.returns-then-not-strings
-returns-then-not-strings c = (omega arith, switches_left c.args.ws.now c.args.b c.args.strings (c.if-not-strings.true))
+pub returns-in-7-Strings : goal.returns-in-7-Strings
+returns-in-7-Strings c = (
+  omega arith,
+  rw c.block_field-in-7-Strings.ensures (switches_all c.args.ws.now c.args.b c.args.asked c.in-7-Strings.is-1 (sym c.block_field.ensures ∙ c.in-7-Strings.is-0)),
+)
 
-pub returns-then-block_field-ne-SWITCH : goal.returns-then-block_field-ne-SWITCH
-returns-then-block_field-ne-SWITCH c = (omega arith, switches_none c.args.ws.now c.args.b c.args.strings (λ e. c.if-block_field-ne-SWITCH.true (c.block_field.ensures ∙ e)))
+pub returns-in_default : goal.returns-in_default
+returns-in_default c = (omega arith, switches_left c.args.ws.now c.args.b c.args.asked c.in_default.is-1)
 
-pub returns : goal.returns
-returns c =
-    let a = c.args in (
-      omega arith,
-      λ r. rw c.block_field-2.ensures
-          (switches_all a.ws.now a.b a.strings (c.if-not-strings.false) (sym c.block_field.ensures ∙ c.if-block_field-ne-SWITCH.false) r),
-    )
+pub returns-in_default-2 : goal.returns-in_default-2
+returns-in_default-2 c = (omega arith, switches_none c.args.ws.now c.args.b c.args.asked (λ e. omega arith))

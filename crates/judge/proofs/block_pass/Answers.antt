@@ -7,7 +7,7 @@ use native.Mathlib.Omega.{arith}
 use borrow.Author.Tests.{eq-eqb, ne_eqb}
 use Rattle.input.specs.Layout.{head_field}
 use Rattle.rows.proofs.Every.{length-live, every-dead, live_params, live_instrs, live_term}
-use Rattle.judge.specs.Passes.{row_ok}
+use Rattle.judge.specs.Passes.{check_number, row_ok}
 use Rattle.judge.proofs.Shapes.{passed_placed}
 use Rattle.judge.proofs.block_pass.Goals as goal
 use Rattle.judge.proofs.block_pass.Goals.{Else-block_field-ne0}
@@ -18,12 +18,12 @@ live c = eq-eqb _ _ (sym c.block_field.ensures ∙ c.if-block_field-ne0.false)
 
 pub returns-then-block_field-ne0 : goal.returns-then-block_field-ne0
 returns-then-block_field-ne0 c =
-    λ ds t. sym (every-dead (row_ok c.args.which c.args.ws.now c.args.functions.now ds) c.args.ws.now c.args.r c.args.b
+    λ ds t. sym (every-dead (row_ok (check_number c.args.which) c.args.ws.now c.args.functions.now ds) c.args.ws.now c.args.r c.args.b
     (ne_eqb _ _ (λ e. c.if-block_field-ne0.true (c.block_field.ensures ∙ e))))
 
 pub returns-then-not-params_pass : goal.returns-then-not-params_pass
 returns-then-not-params_pass c =
-    λ ds t. live_params (row_ok c.args.which c.args.ws.now c.args.functions.now ds) c.args.ws.now c.args.r c.args.b (live (goal.at.returns-then-not-params_pass c).Else-block_field-ne0)
+    λ ds t. live_params (row_ok (check_number c.args.which) c.args.ws.now c.args.functions.now ds) c.args.ws.now c.args.r c.args.b (live (goal.at.returns-then-not-params_pass c).Else-block_field-ne0)
     (c.params_pass.ensures c.args.functions.now ds) c.if-not-params_pass.true
 
 pub instrs_pass-requires : goal.instrs_pass-requires
@@ -39,7 +39,7 @@ pub returns-then-not-instrs_pass : goal.returns-then-not-instrs_pass
 returns-then-not-instrs_pass c =
     let n = c.block_field-n.ensures in
     let first = c.block_field-first.ensures in
-    λ ds t. live_instrs (row_ok c.args.which c.args.ws.now c.args.functions.now ds) c.args.ws.now c.args.r c.args.b (live (goal.at.returns-then-not-instrs_pass c).Else-block_field-ne0)
+    λ ds t. live_instrs (row_ok (check_number c.args.which) c.args.ws.now c.args.functions.now ds) c.args.ws.now c.args.r c.args.b (live (goal.at.returns-then-not-instrs_pass c).Else-block_field-ne0)
     (c.params_pass.ensures c.args.functions.now ds) (rw (first, n) at (c.instrs_pass.ensures ds t))
     c.if-not-params_pass.false c.if-not-instrs_pass.true
 
@@ -55,6 +55,6 @@ pub returns : goal.returns
 returns c =
     let n = c.block_field-n.ensures in
     let first = c.block_field-first.ensures in
-    λ ds t. live_term (row_ok c.args.which c.args.ws.now c.args.functions.now ds) c.args.ws.now c.args.r c.args.b (live (goal.at.returns c).Else-block_field-ne0)
+    λ ds t. live_term (row_ok (check_number c.args.which) c.args.ws.now c.args.functions.now ds) c.args.ws.now c.args.r c.args.b (live (goal.at.returns c).Else-block_field-ne0)
     (c.params_pass.ensures c.args.functions.now ds) (rw (first, n) at (c.instrs_pass.ensures ds t))
     c.if-not-params_pass.false (rw n at (c.term_pass.ensures ds t)) c.if-not-instrs_pass.false

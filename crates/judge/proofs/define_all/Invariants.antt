@@ -10,8 +10,5 @@ use Rattle.judge.proofs.define_all.Given as goal
 
 abbrev pub invariant-loop-b : goal.invariant-loop-b
 invariant-loop-b l = (length l.table ≡ length l.initial.table)
-    × RowsBefore l.ws l.end l.r l.b
-    × (marked (over_rows (row_defs l.ws) l.r (rows_from l.ws l.b (l.end - l.b))) (marks l.table true) ≡ marked (over_rows (row_defs l.ws) 0 (rows_from l.ws 0 l.end)) (marks l.initial.table true))
-
-abbrev pub decreases-loop-b : goal.decreases-loop-b
-decreases-loop-b l = l.end - l.b
+    × RowsBefore l.ws l.b-end l.r l.b
+    × (marked (over_rows (row_defs l.ws) l.r (rows_from l.ws l.b (l.b-end - l.b))) (marks l.table true) ≡ marked (over_rows (row_defs l.ws) 0 (rows_from l.ws 0 l.b-end)) (marks l.initial.table true))

@@ -10,6 +10,3 @@ use Rattle.judge.proofs.define_instrs.Given as goal
 abbrev pub invariant-loop-j : goal.invariant-loop-j
 invariant-loop-j l = (length l.table ≡ length l.initial.table)
     × (marked (over_rows (row_defs l.ws) (l.r + l.j) (instr_rows (l.first + l.j) (l.n - l.j))) (marks l.table true) ≡ marked (over_rows (row_defs l.ws) l.r (instr_rows l.first l.n)) (marks l.initial.table true))
-
-abbrev pub decreases-loop-j : goal.decreases-loop-j
-decreases-loop-j l = l.n - l.j

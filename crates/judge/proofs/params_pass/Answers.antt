@@ -1,21 +1,20 @@
--- Each test of the refusal's number is the definition's.
-use mathlib.Core.Path.{sym, ◌∙◌}
-use Rattle.rows.specs.Rows.{params}
+-- What each check asks of the row is the definition's.
+use Rattle.std.proofs.Common.{rules, ◌≡◌, sym, ◌∙◌, ⊎_elim}
+use Rattle.fit.specs.Callees.{row_callee}
+use Rattle.fit.specs.Keys.{row_keys}
 use Rattle.fit.proofs.Checks.{params_row}
-use Rattle.judge.proofs.Which.{which_shape, which_fit, which_params}
+use Rattle.judge.specs.declared.RowCheck.TheVariants.{Callee, Keys}
+use Rattle.judge.specs.Passes.{row_ok}
 use Rattle.judge.proofs.params_pass.Goals as goal
 
-pub returns-then-which-eq-BAD_SHAPE : goal.returns-then-which-eq-BAD_SHAPE
-returns-then-which-eq-BAD_SHAPE c =
-    let a = c.args in
-    λ fs ds. c.params_shape.ensures ∙ sym (which_shape a.which a.ws.now fs ds a.r (params a.b) c.if-which-eq-BAD_SHAPE.true)
+pub returns-in-Shape : goal.returns-in-Shape
+unfolding row_ok
+returns-in-Shape c = search rules
 
-pub returns-then-which-eq-BAD_INTERVAL : goal.returns-then-which-eq-BAD_INTERVAL
-returns-then-which-eq-BAD_INTERVAL c =
-    let a = c.args in
-    λ fs ds. c.fit_params.ensures ∙ sym (params_row a.ws.now ds a.r a.b) ∙ sym (which_fit a.which a.ws.now fs ds a.r (params a.b) c.if-which-eq-BAD_INTERVAL.true)
+pub returns-in-Interval : goal.returns-in-Interval
+unfolding row_ok
+returns-in-Interval c = λ fs ds. rw c.in-Interval.is (c.fit_params.ensures ∙ sym (params_row c.args.ws.now ds c.args.r c.args.b))
 
-pub returns : goal.returns
-returns c =
-    let a = c.args in
-    λ fs ds. sym (which_params a.which a.ws.now fs ds a.r a.b c.if-which-eq-BAD_SHAPE.false c.if-which-eq-BAD_INTERVAL.false)
+pub returns-in-Callee : goal.returns-in-Callee
+unfolding row_ok row_callee row_keys
+returns-in-Callee c = λ fs ds. ⊎_elim (λ (q : c.args.which ≡ Callee). rw q) (λ (q : c.args.which ≡ Keys). rw q) c.in-Callee.is

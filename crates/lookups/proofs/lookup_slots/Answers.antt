@@ -2,10 +2,6 @@
 use Rattle.lookups.proofs.Lookups.{lookup-filled}
 use Rattle.lookups.proofs.lookup_slots.Goals as goal
 
-pub store_entries-requires : goal.store_entries-requires
-store_entries-requires c =
-    record { start_bound = (c.requires.range.2, rw (c.instr_field-c.ensures, c.instr_field-n.ensures) c.requires.range.0); keys_ready = rw (c.instr_field-c.ensures, c.instr_field-n.ensures) c.requires.keys_ready }
-
 pub returns : goal.returns
 returns c =
     let a = c.args in

@@ -1,14 +1,7 @@
 -- The entries from the j-th on are left, each with a slot of the table.
-use mathlib.Core.Path.{◌≡◌}
-use Prim.Native.Nat.{◌-◌}
-use lib.ListN.{length}
 use Rattle.fit.specs.Keys.{keys_at}
 use Rattle.lookups.proofs.Lookups.{EntriesLeft}
 use Rattle.lookups.proofs.store_entries.Given as goal
 
 abbrev pub invariant-loop-j : goal.invariant-loop-j
-invariant-loop-j l =
-    (length l.values ≡ length l.initial.values) × EntriesLeft l.ws (keys_at 2 l.c l.n) l.start l.c l.n l.initial.values l.e l.j l.values l.e
-
-abbrev pub decreases-loop-j : goal.decreases-loop-j
-decreases-loop-j l = l.n - l.j
+invariant-loop-j l = EntriesLeft l.ws (keys_at 2 l.c l.n) l.start l.c l.n l.initial.values l.e l.j l.values l.e

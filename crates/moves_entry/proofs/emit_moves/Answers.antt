@@ -1,5 +1,5 @@
 -- What comes back of the list's columns is what comes back of the list.
-use mathlib.Core.Path.{ap, ◌∙◌}
+use Rattle.std.proofs.Common.{refl, ap, ◌∙◌}
 use Rattle.place.specs.Registers.{registers}
 use Rattle.moves_entry.specs.declared.Columns.{Columns}
 use Rattle.moves_entry.specs.Gathering.{columns_outcome}
@@ -8,9 +8,8 @@ use Rattle.moves_entry.proofs.emit_moves.Goals as goal
 
 pub returns : goal.returns
 returns c =
-    let a = c.args in
-    let g = c.gather-c.ensures in (
-      c.emit_columns.ensures ∙ ap (λ (d : Columns). columns_outcome registers d a.used a.span a.ops.now a.spans.now) g.0
+    let a = c.args in (
+      c.emit_columns.ensures ∙ ap (λ (d : Columns). columns_outcome registers d a.used a.span a.ops.now a.spans.now) c.gather-c.ensures
           ∙ list_outcome registers a.list.now a.used a.span a.ops.now a.spans.now,
-      g.1,
+      refl,
     )

@@ -1,16 +1,11 @@
 -- Each turn takes one move; past the last one the columns are the list's.
-use mathlib.Core.Path.{refl}
-use native.Mathlib.Omega.{arith}
-use native.Mathlib.Numerals.{add-one}
-use Rattle.moves_entry.proofs.Gathering.{gathered_start, gathered_turn, gathered_end}
+use Rattle.std.proofs.Common.{arith, add-one}
+use Rattle.moves_entry.proofs.Gathering.{gathered_turn, gathered_end}
 use Rattle.moves_entry.proofs.gather.Goals as goal
-
-pub loop-i-init : goal.loop-i-init
-loop-i-init c = rw c.empty_columns-c.ensures (gathered_start c.args.list.now)
 
 pub loop-i-preserved : goal.loop-i-preserved
 loop-i-preserved c =
-    rw (c.with_move-c.ensures, add-one c.loop-i.i) (gathered_turn c.args.list.now c.loop-i.i c.loop-i.c _ (omega (arith, c.held_of-end.ensures)) c.loop-i.invariant)
+    rw (c.with_move-c.ensures, add-one c.loop-i.i) (gathered_turn c.args.list.now c.loop-i.i c.loop-i.c _ (omega arith) c.loop-i.invariant)
 
 pub returns : goal.returns
-returns c = (gathered_end c.args.list.now c.loop-i.i c.loop-i.c (omega (arith, c.held_of-end.ensures)) c.loop-i.invariant, refl)
+returns c = gathered_end c.args.list.now c.loop-i.i c.loop-i.c (omega arith) c.loop-i.invariant

@@ -1,4 +1,4 @@
--- Past the end of the file there is 0, and before it the sum is small.
+-- Past the end of the file there is 0.
 use native.Mathlib.Omega.{arith}
 use Rattle.replay.proofs.Past.{word-past}
 use Rattle.replay.proofs.word_in.Goals as goal
@@ -8,12 +8,3 @@ returns-then-words-at c = word-past _ _ (omega arith)
 
 pub returns-then-words-i : goal.returns-then-words-i
 returns-then-words-i c = word-past _ _ (omega arith)
-
-pub overflow_add-at : goal.overflow_add-at
-overflow_add-at c = omega arith
-
-pub word-requires : goal.word-requires
-word-requires c = tt
-
-pub returns : goal.returns
-returns c = c.word.ensures

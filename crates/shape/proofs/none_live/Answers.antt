@@ -1,20 +1,11 @@
--- The law of loops over records, with tombstones; a block's number is below a count of 32 bits.
-use mathlib.Core.Path.{sym}
-use borrow.Author.Tests.{eq-eqb, ne_eqb}
-use Rattle.input.proofs.Each.{left-turn, left-stop, left-done}
-use Rattle.shape.proofs.Loops.{left-blocks}
+-- A chain over the blocks from one on tests each for a tombstone.
+use Rattle.std.proofs.Common.{rules, arith, sym, ◌∙◌}
+use borrow.Author.Tests.{tests}
+use Rattle.input.proofs.Each.{each_from_all}
+use Rattle.shape.proofs.Loops.{dead, none_each}
 use Rattle.shape.proofs.none_live.Goals as goal
 
-pub loop-b-init : goal.loop-b-init
-loop-b-init c = left-blocks _ _ c.head_field-end.ensures
-
-pub returns-then-block_field-eq0 : goal.returns-then-block_field-eq0
-returns-then-block_field-eq0 c =
-    sym (left-stop c.loop-b.invariant c.loop-b-test.true (rw (← c.block_field.ensures, eq-eqb _ _ c.if-block_field-eq0.true)))
-
-pub loop-b-preserved : goal.loop-b-preserved
-loop-b-preserved c =
-    left-turn c.loop-b.invariant c.loop-b-test.true (rw (← c.block_field.ensures, ne_eqb _ _ c.if-block_field-eq0.false))
-
 pub returns : goal.returns
-returns c = sym (left-done c.loop-b.invariant c.loop-b-test.false)
+returns c =
+    each_from_all (dead c.args.ws.now) (omega arith) c.all.ensures.ran (λ x b q k. search (rules, tests))
+    ∙ sym (none_each c.args.ws.now c.args.from _)

@@ -4,7 +4,7 @@ use Rattle.shape.proofs.Loops.{rows_start, rows-turn, rows-done}
 use Rattle.shape.proofs.row_count.Goals as goal
 
 pub loop-b-init : goal.loop-b-init
-loop-b-init c = rows_start _ c.head_field-end.ensures
+loop-b-init c = rows_start _ c.head_field-b-end.ensures
 
 pub overflow_add-rows : goal.overflow_add-rows
 overflow_add-rows c = omega (arith, c.block_rows-rows.ensures.1, c.loop-b.invariant.few)

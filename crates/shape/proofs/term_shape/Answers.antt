@@ -3,7 +3,8 @@ use Prim.Native.Nat.{◌+◌}
 use lib.Dec.{leb}
 use Rattle.input.specs.Layout.{edges}
 use Rattle.shape.specs.Shape.{term_shape}
-use Rattle.shape.proofs.Tests.{or_where, both_rest, all_six}
+use Rattle.input.proofs.Chain.{both_rest}
+use Rattle.shape.proofs.Tests.{or_where, all_six}
 use Rattle.shape.proofs.term_shape.Goals as goal
 
 pub returns : goal.returns

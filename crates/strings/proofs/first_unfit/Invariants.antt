@@ -1,7 +1,6 @@
 -- The first unfit function is among those from k on.
 use mathlib.Core.Path.{◌≡◌}
-use Prim.Native.Nat.{◌-◌}
-use lib.ListN.{length, drop}
+use lib.ListN.{drop}
 use Rattle.place.specs.Registers.{registers}
 use Rattle.strings.specs.Strings.{functions_in, first_unfit}
 use Rattle.strings.proofs.first_unfit.Given as goal
@@ -9,6 +8,3 @@ use Rattle.strings.proofs.first_unfit.Given as goal
 abbrev pub invariant-loop-k : goal.invariant-loop-k
 invariant-loop-k l =
     first_unfit registers l.k (functions_in l.words l.from (drop l.k l.ends)) ≡ first_unfit registers 0 (functions_in l.words 0 l.ends)
-
-abbrev pub decreases-loop-k : goal.decreases-loop-k
-decreases-loop-k l = length l.ends - l.k

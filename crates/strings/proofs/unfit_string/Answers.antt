@@ -9,4 +9,4 @@ pub returns-then-head_field-ne0 : goal.returns-then-head_field-ne0
 returns-then-head_field-ne0 c = unused_low registers c.args.ws.now (ne_eqb _ 0 (λ z. c.if-head_field-ne0.true (c.head_field.ensures ∙ z)))
 
 pub returns : goal.returns
-returns c = judged_low registers c.args.ws.now _ _ _ c.low_number.ensures c.judge-v.ensures (eq-eqb _ 0 (sym c.head_field.ensures ∙ c.if-head_field-ne0.false))
+returns c = judged_low registers c.args.ws.now _ _ _ c.low.ensures c.judge.ensures (eq-eqb _ 0 (sym c.head_field.ensures ∙ c.if-head_field-ne0.false))

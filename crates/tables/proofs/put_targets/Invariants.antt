@@ -1,11 +1,6 @@
 -- So many are left.
-use Rattle.std.proofs.Common.{◌≡◌, ◌++◌, length, replicate}
-use Rattle.grow.proofs.Growing.{Left}
+use Rattle.tables.proofs.Switches.{SameLeft}
 use Rattle.tables.proofs.put_targets.Given as goal
 
-abbrev pub invariant-loop-left : goal.invariant-loop-left
-invariant-loop-left v =
-    (length v.targets ≡ length v.initial.targets) × Left (λ l. l ++ replicate v.left v.x) (λ l. l ++ replicate v.n v.x) v.initial.targets v.initial.f v.targets v.f
-
-abbrev pub decreases-loop-left : goal.decreases-loop-left
-decreases-loop-left l = l.left
+abbrev pub invariant-loop : goal.invariant-loop
+invariant-loop l = SameLeft l.x l.n l.initial.targets l.initial.f l.counter l.targets l.f

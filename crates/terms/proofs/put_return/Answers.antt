@@ -9,5 +9,5 @@ returns-then-block_field-eq0 c =
 pub returns : goal.returns
 returns c =
     λ l.
-    return-some _ _ _ _ c.block_field.ensures c.if-block_field-eq0.false c.term_place-a.ensures c.operand_reg-s.ensures c.mov.ensures c.ret-2.ensures
+    return-some _ _ _ _ c.block_field.ensures c.if-block_field-eq0.false c.term_place-a.ensures c.operand_reg-x.ensures c.mov.ensures c.ret-2.ensures
     (c.put_fetch-q.ensures l) (c.put-r.ensures l) (c.put-2.ensures l)

@@ -9,9 +9,8 @@ use Rattle.assign.specs.Fits.{run_rows}
 use Rattle.walk.proofs.all_blocks.Given as goal
 
 abbrev pub invariant-loop-b : goal.invariant-loop-b
-invariant-loop-b l = (l.row + length (rows_from l.ws l.b (l.n - l.b)) ≡ length (rows_from l.ws 0 l.n))
-    × ((length l.map ≡ length l.initial.map) × (length l.wish ≡ length l.initial.wish) × (length l.noted ≡ length l.initial.noted)) × Good l.t
-    × (run_rows l.ws l.pool l.row (rows_from l.ws l.b (l.n - l.b)) (walk l.t l.map l.wish l.noted) ≡ run_rows l.ws l.pool 0 (rows_from l.ws 0 l.n) (walk l.initial.t l.initial.map l.initial.wish l.initial.noted))
-
-abbrev pub decreases-loop-b : goal.decreases-loop-b
-decreases-loop-b l = l.n - l.b
+invariant-loop-b l = record {
+  row : l.row + length (rows_from l.ws l.b (l.n - l.b)) ≡ length (rows_from l.ws 0 l.n);
+  good : Good l.t;
+  left : run_rows l.ws l.pool l.row (rows_from l.ws l.b (l.n - l.b)) (walk l.t l.map l.wish l.noted) ≡ run_rows l.ws l.pool 0 (rows_from l.ws 0 l.n) (walk l.initial.t l.initial.map l.initial.wish l.initial.noted);
+}

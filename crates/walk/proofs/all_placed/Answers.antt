@@ -6,9 +6,6 @@ use Rattle.walk.proofs.Rows.{from_all}
 use Rattle.walk.proofs.Placed.{blocks_go, blocks_fail, blocks-done}
 use Rattle.walk.proofs.all_placed.Goals as goal
 
-pub head_field-n-requires : goal.head_field-n-requires
-head_field-n-requires c = tt
-
 pub loop-b-init : goal.loop-b-init
 loop-b-init c = ap (rows_placed c.args.map.now c.args.ws.now) (from_all c.args.ws.now c.head_field-n.result)
 
@@ -20,12 +17,6 @@ returns-then-not-block_placed c = let a = c.args in
     rw (sym c.head_field-n.ensures)
     (sym (blocks_fail a.map.now a.ws.now c.loop-b.b c.head_field-n.result c.loop-b-test.true (sym c.block_placed.ensures ∙ c.if-not-block_placed.true))
     ∙ c.loop-b.invariant)
-
-pub overflow_add-b : goal.overflow_add-b
-overflow_add-b c = omega (arith, c.loop-b-test.true)
-
-pub loop-b-smaller : goal.loop-b-smaller
-loop-b-smaller c = omega (arith, c.loop-b-test.true)
 
 pub loop-b-preserved : goal.loop-b-preserved
 loop-b-preserved c = let a = c.args in

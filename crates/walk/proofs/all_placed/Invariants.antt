@@ -7,6 +7,3 @@ use Rattle.walk.proofs.all_placed.Given as goal
 
 abbrev pub invariant-loop-b : goal.invariant-loop-b
 invariant-loop-b l = rows_placed l.map l.ws (rows_from l.ws l.b (l.n - l.b)) ≡ rows_placed l.map l.ws (rows_from l.ws 0 l.n)
-
-abbrev pub decreases-loop-b : goal.decreases-loop-b
-decreases-loop-b l = l.n - l.b

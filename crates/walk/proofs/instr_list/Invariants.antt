@@ -1,7 +1,6 @@
 -- What is left of the rows from j on: each turn takes the steps of one.
 use mathlib.Core.Path.{◌≡◌}
 use Prim.Native.Nat.{◌+◌, ◌-◌}
-use lib.ListN.{length}
 use Rattle.alloc.specs.Good.{Good}
 use Rattle.rows.specs.Rows.{instr_rows}
 use Rattle.assign.specs.Walk.{walk}
@@ -9,8 +8,7 @@ use Rattle.assign.specs.Fits.{run_rows}
 use Rattle.walk.proofs.instr_list.Given as goal
 
 abbrev pub invariant-loop-j : goal.invariant-loop-j
-invariant-loop-j l = ((length l.map ≡ length l.initial.map) × (length l.noted ≡ length l.initial.noted)) × Good l.t
-    × (run_rows l.ws l.pool (l.row + l.j) (instr_rows (l.first + l.j) (l.n - l.j)) (walk l.t l.map l.wish l.noted) ≡ run_rows l.ws l.pool l.row (instr_rows l.first l.n) (walk l.initial.t l.initial.map l.wish l.initial.noted))
-
-abbrev pub decreases-loop-j : goal.decreases-loop-j
-decreases-loop-j l = l.n - l.j
+invariant-loop-j l = record {
+  good : Good l.t;
+  left : run_rows l.ws l.pool (l.row + l.j) (instr_rows (l.first + l.j) (l.n - l.j)) (walk l.t l.map l.wish l.noted) ≡ run_rows l.ws l.pool l.row (instr_rows l.first l.n) (walk l.initial.t l.initial.map l.wish l.initial.noted);
+}

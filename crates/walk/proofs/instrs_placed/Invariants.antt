@@ -7,6 +7,3 @@ use Rattle.walk.proofs.instrs_placed.Given as goal
 
 abbrev pub invariant-loop-j : goal.invariant-loop-j
 invariant-loop-j l = rows_placed l.map l.ws (instr_rows (l.first + l.j) (l.n - l.j)) ≡ rows_placed l.map l.ws (instr_rows l.first l.n)
-
-abbrev pub decreases-loop-j : goal.decreases-loop-j
-decreases-loop-j l = l.n - l.j

@@ -1,6 +1,5 @@
 -- What is left to ask from j on: each turn passes one value.
 use mathlib.Core.Path.{sym, ◌∙◌}
-use native.Mathlib.Omega.{arith}
 use Prim.Native.Nat.{ℕ}
 use Rattle.input.specs.Layout.{list_at}
 use Rattle.rows.specs.Rows.{refs}
@@ -13,29 +12,14 @@ pub loop-j-init : goal.loop-j-init
 loop-j-init c = let a = c.args in
     left_all (λ (i k : ℕ). all_placed a.map.now (refs 0 (list_at a.ws.now i k))) a.at a.n
 
-pub pool_at-v-requires : goal.pool_at-v-requires
-pool_at-v-requires c = tt
-
-pub overflow_cast-v : goal.overflow_cast-v
-overflow_cast-v c = omega arith
-
-pub get32-requires : goal.get32-requires
-get32-requires c = tt
-
-pub returns-then-get32-eq0 : goal.returns-then-get32-eq0
-returns-then-get32-eq0 c = let a = c.args in
-    sym (list_fails a.map.now a.ws.now a.at c.loop-j.j a.n c.loop-j-test.true (sym (rw c.pool_at-v.ensures at c.get32.ensures) ∙ c.if-get32-eq0.true))
+pub returns-then-get_or-eq0 : goal.returns-then-get_or-eq0
+returns-then-get_or-eq0 c = let a = c.args in
+    sym (list_fails a.map.now a.ws.now a.at c.loop-j.j a.n c.loop-j-test.true (sym (rw c.pool_at-v.ensures at c.get_or.ensures) ∙ c.if-get_or-eq0.true))
     ∙ c.loop-j.invariant
-
-pub overflow_add-j : goal.overflow_add-j
-overflow_add-j c = omega (arith, c.loop-j-test.true)
-
-pub loop-j-smaller : goal.loop-j-smaller
-loop-j-smaller c = omega (arith, c.loop-j-test.true)
 
 pub loop-j-preserved : goal.loop-j-preserved
 loop-j-preserved c = let a = c.args in
-    sym (list_goes a.map.now a.ws.now a.at c.loop-j.j a.n c.loop-j-test.true (λ e. c.if-get32-eq0.false (rw c.pool_at-v.ensures at c.get32.ensures ∙ e)))
+    sym (list_goes a.map.now a.ws.now a.at c.loop-j.j a.n c.loop-j-test.true (λ e. c.if-get_or-eq0.false (rw c.pool_at-v.ensures at c.get_or.ensures ∙ e)))
     ∙ c.loop-j.invariant
 
 pub returns : goal.returns

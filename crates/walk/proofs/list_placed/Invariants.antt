@@ -8,6 +8,3 @@ use Rattle.walk.proofs.list_placed.Given as goal
 
 abbrev pub invariant-loop-j : goal.invariant-loop-j
 invariant-loop-j l = all_placed l.map (refs 0 (list_at l.ws (l.at + l.j) (l.n - l.j))) ≡ all_placed l.map (refs 0 (list_at l.ws l.at l.n))
-
-abbrev pub decreases-loop-j : goal.decreases-loop-j
-decreases-loop-j l = l.n - l.j

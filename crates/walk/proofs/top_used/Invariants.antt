@@ -1,10 +1,7 @@
 -- The search goes down from 64 as the definition does.
-use mathlib.Core.Path.{◌≡◌}
+use Rattle.std.proofs.Common.{◌≡◌, get_or}
 use Rattle.assign.specs.Walk.{used_below}
 use Rattle.walk.proofs.top_used.Given as goal
 
 abbrev pub invariant-loop-r : goal.invariant-loop-r
-invariant-loop-r l = used_below l.m l.r ≡ used_below l.m 64
-
-abbrev pub decreases-loop-r : goal.decreases-loop-r
-decreases-loop-r l = l.r
+invariant-loop-r l = used_below (get_or l.fn.s.used 0 0) l.r ≡ used_below (get_or l.fn.s.used 0 0) 64

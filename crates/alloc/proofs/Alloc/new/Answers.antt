@@ -1,10 +1,8 @@
--- `new`: the two masks are those of the pools, and a fresh state is good.
-use mathlib.Core.Path.{refl}
+-- A fresh state is good.
 use Rattle.alloc.specs.State.{fresh_of}
 use Rattle.alloc.proofs.Keeps.{good_fresh}
 use Rattle.alloc.proofs.Alloc.new.Goals as goal
 
-pub returns : goal.returns
+pub returns-clause-good : goal.returns-clause-good
 unfolding fresh_of
-returns c =
-    rw (c.mask_of-f.ensures, c.mask_of-g.ensures) record { value = refl; good = good_fresh c.args.gprs.now c.args.fprs.now }
+returns-clause-good c = rw (c.mask_of.ensures, c.mask_of-2.ensures) (good_fresh c.args.gprs.now c.args.fprs.now)

@@ -1,6 +1,0 @@
--- By a law, and not by counting.
-use Rattle.compact_vectors.proofs.Made.{made}
-use Rattle.compact_vectors.proofs.no_words.Goals as goal
-
-pub returns : goal.returns
-returns c = made 65536 0

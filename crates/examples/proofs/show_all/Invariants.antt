@@ -1,9 +1,0 @@
--- Indexes and sums in range, by the bounds that the loop keeps.
-use Prim.Native.Nat.{◌≤◌, ◌-◌}
-use Rattle.examples.proofs.show_all.Given as goal
-
-abbrev pub invariant-loop-i : goal.invariant-loop-i
-invariant-loop-i l = l.i ≤ l.n
-
-abbrev pub decreases-loop-i : goal.decreases-loop-i
-decreases-loop-i l = l.n - l.i

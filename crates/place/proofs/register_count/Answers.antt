@@ -1,8 +1,0 @@
--- The constant is the definition's number: both compute.
-use mathlib.Core.Path.{refl}
-use Rattle.place.specs.Registers.{registers}
-use Rattle.place.proofs.register_count.Goals as goal
-
-pub returns : goal.returns
-unfolding registers
-returns c = refl

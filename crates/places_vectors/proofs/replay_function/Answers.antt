@@ -1,7 +1,0 @@
--- Parts that fit are as long as they are said to be.
-use native.Mathlib.Omega.{arith}
-use lib.ListN.{length-take}
-use Rattle.places_vectors.proofs.replay_function.Goals as goal
-
-pub slice_bounds-next_bytes-end-2 : goal.slice_bounds-next_bytes-end-2
-slice_bounds-next_bytes-end-2 c = simp length-take (omega arith)
