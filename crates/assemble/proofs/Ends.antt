@@ -21,9 +21,9 @@ unfolding filled_from
 zeros l = let e : length l - 0 ≡ length l = omega arith in rw e
 
 -- no label is bound where all are zero
-pub frame_ready : (labels₀ labels regs : List ℕ) (k : ℕ) → labels ≡ zero_from labels₀ 0 → k ≤ 192 → FrameReady labels (take k regs) (length (take k regs))
+pub frame_ready : (labels₀ labels regs : List ℕ) (k : ℕ) → labels ≡ zero_from labels₀ 0 → k ≤ 192 → FrameReady labels (take k regs)
 frame_ready labels₀ labels regs k e f =
-    record { unbound = λ t. rw e (get_or-zero_from-after labels₀ 0 t (omega arith)); few = omega (arith, length-take k regs); there = omega arith }
+    record { unbound = λ t. rw e (get_or-zero_from-after labels₀ 0 t (omega arith)); few = omega (arith, length-take k regs) }
 
 -- the function by the registers that its frame pushes
 pub function_put : (env : Env) (u : Used) (id top slots : ℕ) (ops spans labels labels₁ regs : List ℕ) {ops'' spans'' labels'' : List ℕ} {p : Pen}

@@ -5,7 +5,7 @@ use mathlib.Core.Bool.{true, false}
 use Prim.Native.Nat.{ℕ, ◌≤◌, ◌<◌}
 use mathlib.Core.List.{List}
 use native.Mathlib.Omega.{arith}
-use lib.ListN.{length, get_or, take}
+use lib.ListN.{length, get_or}
 use lib.Seq.{sets, take_all}
 use Rattle.base.specs.declared.Pen.{Pen}
 use Rattle.base.specs.Emission.{Out}
@@ -73,13 +73,9 @@ within env u regs o z = body_within registers env u.switches u.lookups (entered 
 
 -- Prologue and body are put behind the program's ops.
 module _ (env : Env) (u : Used) {regs : List ℕ} {ops spans labels ops₁ spans₁ ops₂ spans₂ labels₂ : List ℕ} {p q r : Pen} (room : u.ops ≤ op_room ops spans)
-    (frame : FrameReady labels regs (length regs)) (starts : p ≡ pen_at env.ws ops spans u.ops)
-    (prologues : Lowers (entered (take (length regs) regs)) ops spans labels p ops₁ spans₁ labels q)
+    (frame : FrameReady labels regs) (starts : p ≡ pen_at env.ws ops spans u.ops)
+    (prologues : Lowers (entered regs) ops spans labels p ops₁ spans₁ labels q)
     (bodies : Lowers (body_of env u) ops₁ spans₁ labels q ops₂ spans₂ labels₂ r) where
-  -- the frame's registers are all of them
-  all_regs : take (length regs) regs ≡ regs
-  all_regs = take_all (length regs) regs (omega arith)
-
   room_is : p.room ≡ op_room ops spans
   room_is = ap (λ (x : Pen). x.room) starts
 
@@ -100,15 +96,15 @@ module _ (env : Env) (u : Used) {regs : List ℕ} {ops spans labels ops₁ spans
       → OpsPut (out_of regs env u (out_at env.ws ops spans labels u.ops)) u.ops ops spans ops₂ spans₂ labels₂ r
   puts_over e =
       put_all (out_of regs env u) u.ops room_is
-      (joins_over regs regs (length regs) (function_span env.ws) (body_of env u) frame.there all_regs start prologues bodies grows e)
+      (joins_over regs (function_span env.ws) (body_of env u) start prologues bodies grows e)
       (λ (f : r.full ≡ false). absurd (let z : ◌≡◌ {A = ℕ} 0 1 = cc in omega arith))
-      (keeps_over regs regs (length regs) (function_span env.ws) (body_of env u) frame.there all_regs start prologues bodies grows u.ops (behind env u _) used_fits refl refl)
+      (keeps_over regs (function_span env.ws) (body_of env u) start prologues bodies grows u.ops (behind env u _) used_fits refl refl)
 
   -- it found room: what `resolve_all` asks for
   module _ (e : r.full ≡ false) where
     pub labels_low : (i : ℕ) → get_or labels₂ i 0 < 4294967296
     labels_low =
-        labels_fit regs regs (length regs) (function_span env.ws) (body_of env u) frame.there all_regs start prologues bodies grows e (rw room_is (room_few ops spans).0)
+        labels_fit regs (function_span env.ws) (body_of env u) start prologues bodies grows e (rw room_is (room_few ops spans).0)
         (within env u regs (out_at env.ws ops spans labels u.ops) frame.unbound)
 
     module _ {ops₃ : List ℕ} (resolves : Lowers (resolve_all q.at) ops₂ spans₂ labels₂ r ops₃ spans₂ labels₂ r) where
@@ -117,28 +113,28 @@ module _ (env : Env) (u : Used) {regs : List ℕ} {ops spans labels ops₁ spans
           → OpsPut (out_of regs env u (out_at env.ws ops spans labels u.ops)) u.ops ops spans ops₃ spans₂ labels₂ r
       puts_none z =
           put_all (out_of regs env u) u.ops room_is
-          (joins_none regs regs (length regs) (function_span env.ws) (body_of env u) frame.there all_regs start prologues bodies grows e resolves z)
+          (joins_none regs (function_span env.ws) (body_of env u) start prologues bodies grows e resolves z)
           (λ _. labels_low)
-          (keeps_none regs regs (length regs) (function_span env.ws) (body_of env u) frame.there all_regs start prologues bodies grows e resolves u.ops (behind env u _) used_fits refl refl)
+          (keeps_none regs (function_span env.ws) (body_of env u) start prologues bodies grows e resolves u.ops (behind env u _) used_fits refl refl)
 
       -- what `put_left` asks for
-      pub before-left : (r.full ≡ false) × (r.at ≤ r.room) × (r.room ≤ length ops₃) × (r.room ≤ length spans₂) × (r.room ≤ 65534) × (q.at ≤ r.at) × (length regs ≤ 192) × (length regs ≤ length regs)
+      pub before-left : (r.full ≡ false) × (r.at ≤ r.room) × (r.room ≤ length ops₃) × (r.room ≤ length spans₂) × (r.room ≤ 65534) × (q.at ≤ r.at) × (length regs ≤ 192)
       before-left =
-          let l = left_ready regs regs (length regs) (function_span env.ws) (body_of env u) frame.there all_regs start prologues bodies grows e resolves in
+          let l = left_ready regs (function_span env.ws) (body_of env u) start prologues bodies grows e resolves in
           let m : r.room ≤ 65534 = rw (bodies.room_kept ∙ prologues.room_kept ∙ room_is) (room_few ops spans).0 in
-          (e, l.0, l.1, l.2, m, l.3, frame.few, frame.there)
+          (e, l.0, l.1, l.2, m, l.3, frame.few)
 
       -- epilogue and stubs, which found room or not
       pub puts_left : {ops₄ spans₄ : List ℕ} {r' : Pen} → length regs ≢ 0
           → ((l ops₀ spans₀ : List ℕ) (o : Out) → Held ops₀ spans₀ o ops₃ spans₂ l r
-          → Framed (left (take (length regs) regs) p.span q.at) ops₀ spans₀ o ops₄ spans₄ l r r')
+          → Framed (left regs p.span q.at) ops₀ spans₀ o ops₄ spans₄ l r r')
           → OpsPut (out_of regs env u (out_at env.ws ops spans labels u.ops)) u.ops ops spans ops₄ spans₄ labels₂ r'
       puts_left {ops₄} {spans₄} {r'} z leaves =
-          let h = held-resolved regs regs (length regs) (function_span env.ws) (body_of env u) frame.there all_regs start prologues bodies grows e resolves in
-          let f : Framed (left (take (length regs) regs) (function_span env.ws) q.at) ops spans
+          let h = held-resolved regs (function_span env.ws) (body_of env u) start prologues bodies grows e resolves in
+          let f : Framed (left regs (function_span env.ws) q.at) ops spans
           (resolved regs (body_of env u) (out_at env.ws ops spans labels u.ops)) ops₄ spans₄ labels₂ r r' =
           rw (ap (λ (x : Pen). x.span) starts) at (leaves labels₂ ops spans _ h) in
           put_all (out_of regs env u) u.ops room_is
-          (joins_left regs regs (length regs) (function_span env.ws) (body_of env u) frame.there all_regs start prologues bodies grows e resolves z f)
+          (joins_left regs (function_span env.ws) (body_of env u) start prologues bodies grows e resolves z f)
           (λ _. labels_low)
-          (keeps_left regs regs (length regs) (function_span env.ws) (body_of env u) frame.there all_regs start prologues bodies grows e resolves z f u.ops (behind env u _) used_fits refl refl)
+          (keeps_left regs (function_span env.ws) (body_of env u) start prologues bodies grows e resolves z f u.ops (behind env u _) used_fits refl refl)

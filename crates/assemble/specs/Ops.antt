@@ -25,11 +25,10 @@ out_of regs env u = framed regs (function_span env.ws) (body_ops registers env u
 pub record PlacesLow (places : List ℕ) : Type 0 where
   pub low : (v : ℕ) → place_at places v + 62 < 4294967296
 
--- no label is bound, and so many registers stand in an array
-pub record FrameReady (labels regs : List ℕ) (k : ℕ) : Type 0 where
+-- no label is bound, and a frame has no more than so many registers
+pub record FrameReady (labels regs : List ℕ) : Type 0 where
   pub unbound : (t : ℕ) → ◌≡◌ {A = ℕ} (get_or labels t 0) 0
-  pub few : k ≤ 192
-  pub there : k ≤ length regs
+  pub few : length regs ≤ 192
 
 -- all of it found room
 pub record Fits (out : Out) (ops spans ops'' spans'' labels'' : List ℕ) (at : ℕ) : Type 0 where

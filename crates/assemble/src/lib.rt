@@ -22,13 +22,13 @@ fn put_framed(
     regs: &[u8],
     u: Used,
 ) -> Pen
-    requires lowerable { Lowerable s.ws.now }
+    requires lowerable { Lowerable s.vs.ws.now }
     requires used_few { (u.ops ≤ op_room ops.old spans.old) × (u.switches ≤ 65534) × (u.lookups ≤ 65534) }
-    requires frame_ready { FrameReady labels.old regs.now (length regs.now) }
-    ensures { OpsPut (out_of regs.now (env_of s.entry) u (out_at s.entry.ws.now ops.old spans.old labels.old u.ops)) u.ops ops.old spans.old ops.new spans.new labels.new result }
+    requires frame_ready { FrameReady labels.old regs.now }
+    ensures { OpsPut (out_of regs.now (env_of s.entry) u (out_at s.entry.vs.ws.now ops.old spans.old labels.old u.ops)) u.ops ops.old spans.old ops.new spans.new labels.new result }
 {
-    let p = used::pen_at(s.ws, ops, spans, u.ops);
-    let q = frame::put_prologue(ops, spans, p, regs, regs.len());
+    let p = used::pen_at(s.vs.ws, ops, spans, u.ops);
+    let q = frame::put_prologue(ops, spans, p, regs);
     let r = body::put_body(
         ops,
         spans,
@@ -45,7 +45,7 @@ fn put_framed(
     if regs.is_empty() {
         return r;
     }
-    frame::put_left(ops, spans, r, regs, regs.len(), p.span, q.at)
+    frame::put_left(ops, spans, r, regs, p.span, q.at)
 }
 
 // The same with the registers that the function's frame pushes, and with no label bound before.
@@ -57,13 +57,13 @@ pub fn put_ops(
     p: Placed,
     u: Used,
 ) -> Pen
-    requires lowerable { Lowerable s.ws.now }
+    requires lowerable { Lowerable s.vs.ws.now }
     requires top_bound { (p.top ≤ 64) × (p.slots ≤ 128) }
     requires used_few { (u.ops ≤ op_room ops.old spans.old) × (u.switches ≤ 65534) × (u.lookups ≤ 65534) }
-    ensures { OpsPut (function_out registers (env_of s.entry) u p.top p.slots (start_out s.entry.ws.now ops.old spans.old labels.old u)) u.ops ops.old spans.old ops.new spans.new labels.new result }
+    ensures { OpsPut (function_out registers (env_of s.entry) u p.top p.slots (start_out s.entry.vs.ws.now ops.old spans.old labels.old u)) u.ops ops.old spans.old ops.new spans.new labels.new result }
 {
     base::fill_from(labels, 0, 0);
     let mut regs = [0u8; 192];
-    let k = frame::frame_regs(input::head_field(s.ws, 0), p.top, p.slots, &mut regs);
+    let k = frame::frame_regs(input::head_field(s.vs.ws, 0), p.top, p.slots, &mut regs);
     put_framed(ops, spans, labels, s, &regs[..k], u)
 }

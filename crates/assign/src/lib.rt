@@ -14,6 +14,15 @@ ghost use Rattle.assign.specs.Fits.{Fits};
 use alloc::Alloc;
 use place::Reg;
 
+// What giving places at a row reads: the function's words, the hints, the pool, and which row.
+#[derive(Clone, Copy)]
+pub struct AtRow<'a> {
+    pub ws: &'a [u32],
+    pub wish: &'a [u32],
+    pub pool: &'a [u8],
+    pub row: u32,
+}
+
 // What a hint's word says.
 #[tactic(auto, unfolding(crate::specs::Walk::hint_for))]
 pub fn hint_for(x: u32) -> Option<Reg>
@@ -27,91 +36,56 @@ pub fn hint_for(x: u32) -> Option<Reg>
 
 // One value is placed at a row.
 #[tactic(auto, unfolding(crate::specs::Walk::place_step))]
-fn place_value(
-    s: Alloc,
-    ws: &[u32],
-    map: &mut [u32],
-    wish: &[u32],
-    pool: &[u8],
-    row: u32,
-    v: u32,
-) -> Alloc
+fn place_value(s: Alloc, map: &mut [u32], r: AtRow, v: u32) -> Alloc
     requires { Good s }
     ensures good { Good result }
-    ensures by_index { (n : List ℕ) → walk result map.new wish.now n ≡ place_step ws.now pool.now row v (walk s map.old wish.now n) }
+    ensures by_index { (n : List ℕ) → walk result map.new r.entry.wish.now n ≡ place_step r.entry.ws.now r.entry.pool.now r.entry.row v (walk s map.old r.entry.wish.now n) }
 {
-    let end = input::value_field(ws, v, 1);
-    let h = hint_for(base::get_or(wish, v as usize, 0));
-    s.place(map, v as usize, 0, row, end, h, pool).state
+    let end = input::value_field(r.ws, v, 1);
+    let h = hint_for(base::get_or(r.wish, v as usize, 0));
+    s.place(map, v as usize, 0, r.row, end, h, r.pool).state
 }
 
 // One parameter of block 0 is pinned, or placed where its register isn't free.
 #[tactic(auto, unfolding(crate::specs::Walk::pin_step))]
-fn pin_value(
-    s: Alloc,
-    ws: &[u32],
-    map: &mut [u32],
-    wish: &[u32],
-    pool: &[u8],
-    row: u32,
-    k: u8,
-    v: u32,
-) -> Alloc
+fn pin_value(s: Alloc, map: &mut [u32], r: AtRow, k: u8, v: u32) -> Alloc
     requires { Good s }
     ensures good { Good result }
-    ensures by_index { (n : List ℕ) → walk result map.new wish.now n ≡ pin_step ws.now pool.now row k v (walk s map.old wish.now n) }
+    ensures by_index { (n : List ℕ) → walk result map.new r.entry.wish.now n ≡ pin_step r.entry.ws.now r.entry.pool.now r.entry.row k v (walk s map.old r.entry.wish.now n) }
 {
-    let r = Reg::Gpr(k);
-    if s.is_free(r) {
-        let until = input::value_field(ws, v, 1);
-        return s.pin(map, v as usize, r, until);
+    let reg = Reg::Gpr(k);
+    if s.is_free(reg) {
+        let until = input::value_field(r.ws, v, 1);
+        return s.pin(map, v as usize, reg, until);
     }
-    place_value(s, ws, map, wish, pool, row, v)
+    place_value(s, map, r, v)
 }
 
 // The n values of the pool from `at` on are placed at a row.
-fn place_list(
-    s: Alloc,
-    ws: &[u32],
-    map: &mut [u32],
-    wish: &[u32],
-    pool: &[u8],
-    row: u32,
-    at: u32,
-    n: u32,
-) -> Alloc
+fn place_list(s: Alloc, map: &mut [u32], r: AtRow, at: u32, n: u32) -> Alloc
     requires { Good s }
     ensures good { Good result }
-    ensures by_index { (m : List ℕ) → walk result map.new wish.now m ≡ run ws.now pool.now (places row (list_at ws.now at n)) (walk s map.old wish.now m) }
+    ensures by_index { (m : List ℕ) → walk result map.new r.entry.wish.now m ≡ run r.entry.ws.now r.entry.pool.now (places r.entry.row (list_at r.entry.ws.now at n)) (walk s map.old r.entry.wish.now m) }
 {
     let mut t = s;
     for j in 0..n {
-        let v = input::pool_at(ws, at, j);
-        t = place_value(t, ws, map, wish, pool, row, v);
+        let v = input::pool_at(r.ws, at, j);
+        t = place_value(t, map, r, v);
     }
     t
 }
 
 // They are pinned, the first to register 0.
-fn pin_list(
-    s: Alloc,
-    ws: &[u32],
-    map: &mut [u32],
-    wish: &[u32],
-    pool: &[u8],
-    row: u32,
-    at: u32,
-    n: u32,
-) -> Alloc
+fn pin_list(s: Alloc, map: &mut [u32], r: AtRow, at: u32, n: u32) -> Alloc
     requires n_bound { n ≤ 62 }
     requires good { Good s }
     ensures good_2 { Good result }
-    ensures by_index { (m : List ℕ) → walk result map.new wish.now m ≡ run ws.now pool.now (pins row 0 (list_at ws.now at n)) (walk s map.old wish.now m) }
+    ensures by_index { (m : List ℕ) → walk result map.new r.entry.wish.now m ≡ run r.entry.ws.now r.entry.pool.now (pins r.entry.row 0 (list_at r.entry.ws.now at n)) (walk s map.old r.entry.wish.now m) }
 {
     let mut t = s;
     for j in 0..n {
-        let v = input::pool_at(ws, at, j);
-        t = pin_value(t, ws, map, wish, pool, row, j as u8, v);
+        let v = input::pool_at(r.ws, at, j);
+        t = pin_value(t, map, r, j as u8, v);
     }
     t
 }
@@ -145,65 +119,40 @@ fn note_row(s: Alloc, ws: &[u32], noted: &mut [u64], row: u32, i: u32)
 }
 
 // A destination, given as 0 for none, else the value and 1.
-fn place_maybe(
-    s: Alloc,
-    ws: &[u32],
-    map: &mut [u32],
-    wish: &[u32],
-    pool: &[u8],
-    row: u32,
-    d: u32,
-) -> Alloc
+fn place_maybe(s: Alloc, map: &mut [u32], r: AtRow, d: u32) -> Alloc
     requires { Good s }
     ensures good { Good result }
-    ensures by_index { (n : List ℕ) → walk result map.new wish.now n ≡ run ws.now pool.now (places row (maybe d)) (walk s map.old wish.now n) }
+    ensures by_index { (n : List ℕ) → walk result map.new r.entry.wish.now n ≡ run r.entry.ws.now r.entry.pool.now (places r.entry.row (maybe d)) (walk s map.old r.entry.wish.now n) }
 {
     if d == 0 {
         return s;
     }
-    place_value(s, ws, map, wish, pool, row, d - 1)
+    place_value(s, map, r, d - 1)
 }
 
 // An instruction's row. What is noted are the registers before its destination has a place.
-pub fn one_instr(
-    s: Alloc,
-    ws: &[u32],
-    map: &mut [u32],
-    wish: &[u32],
-    noted: &mut [u64],
-    pool: &[u8],
-    row: u32,
-    i: u32,
-) -> Alloc
+pub fn one_instr(s: Alloc, map: &mut [u32], noted: &mut [u64], r: AtRow, i: u32) -> Alloc
     requires { Good s }
     ensures good { Good result }
-    ensures noted_after { walk result map.new wish.now noted.new ≡ run ws.now pool.now (row_steps ws.now row (instr i)) (walk s map.old wish.now noted.old) }
+    ensures noted_after { walk result map.new r.entry.wish.now noted.new ≡ run r.entry.ws.now r.entry.pool.now (row_steps r.entry.ws.now r.entry.row (instr i)) (walk s map.old r.entry.wish.now noted.old) }
 {
-    let d = input::instr_field(ws, i, 2);
-    let t = place_maybe(s, ws, map, wish, pool, row, d);
-    note_row(s, ws, noted, row, i);
+    let d = input::instr_field(r.ws, i, 2);
+    let t = place_maybe(s, map, r, d);
+    note_row(s, r.ws, noted, r.row, i);
     t
 }
 
 // The row of a block's parameters.
-pub fn param_list(
-    s: Alloc,
-    ws: &[u32],
-    map: &mut [u32],
-    wish: &[u32],
-    pool: &[u8],
-    row: u32,
-    b: u32,
-) -> Alloc
-    requires fits { Fits ws.now }
+pub fn param_list(s: Alloc, map: &mut [u32], r: AtRow, b: u32) -> Alloc
+    requires fits { Fits r.ws.now }
     requires good { Good s }
     ensures good_2 { Good result }
-    ensures by_index { (m : List ℕ) → walk result map.new wish.now m ≡ run ws.now pool.now (row_steps ws.now row (params b)) (walk s map.old wish.now m) }
+    ensures by_index { (m : List ℕ) → walk result map.new r.entry.wish.now m ≡ run r.entry.ws.now r.entry.pool.now (row_steps r.entry.ws.now r.entry.row (params b)) (walk s map.old r.entry.wish.now m) }
 {
-    let at = input::block_field(ws, b, 2);
-    let n = input::block_field(ws, b, 3);
+    let at = input::block_field(r.ws, b, 2);
+    let n = input::block_field(r.ws, b, 3);
     if b == 0 {
-        return pin_list(s, ws, map, wish, pool, row, at, n);
+        return pin_list(s, map, r, at, n);
     }
-    place_list(s, ws, map, wish, pool, row, at, n)
+    place_list(s, map, r, at, n)
 }

@@ -38,17 +38,17 @@ pub struct Tally {
 
 // The numbers behind block b.
 fn tally_after(s: Seen, b: u32, t: Tally) -> Tally
-    requires { Ready s.ws.now × Live s.ws.now b × (t.switches < 4294967295) × (t.lookups + instr_count s.ws.now b < 4294967296) × (t.label + 1024 < 4294967296) }
-    ensures { result ≡ tallied s.entry.ws.now s.entry.map.now b t }
+    requires { Ready s.vs.ws.now × Live s.vs.ws.now b × (t.switches < 4294967295) × (t.lookups + instr_count s.vs.ws.now b < 4294967296) × (t.label + 1024 < 4294967296) }
+    ensures { result ≡ tallied s.entry.vs.ws.now s.entry.vs.map.now b t }
 {
-    let first = input::block_field(s.ws, b, 4);
-    let n = input::block_field(s.ws, b, 5);
-    let lookups = t.lookups + instr_runs::lookups_in(s.ws, first, n);
-    if input::block_field(s.ws, b, 6) != kinds::term::SWITCH {
+    let first = input::block_field(s.vs.ws, b, 4);
+    let n = input::block_field(s.vs.ws, b, 5);
+    let lookups = t.lookups + instr_runs::lookups_in(s.vs.ws, first, n);
+    if input::block_field(s.vs.ws, b, 6) != kinds::term::SWITCH {
         return Tally { lookups, ..t };
     }
-    let e = input::block_field(s.ws, b, 10);
-    let pads = edges::pad_count(s.ws, s.map, e, input::block_field(s.ws, b, 13));
+    let e = input::block_field(s.vs.ws, b, 10);
+    let pads = edges::pad_count(s.vs, e, input::block_field(s.vs.ws, b, 13));
     Tally {
         switches: t.switches + 1,
         lookups,
@@ -67,16 +67,16 @@ fn put_block(
     b: u32,
     k: u32,
 ) -> Pen
-    requires ready { Ready s.ws.now × ((b i : ℕ) → InstrOf s.ws.now b i → InstrReady s.ws.now i) }
-    requires live { Live s.ws.now b × (b + k < 1024) × (t.lookups + instr_count s.ws.now b < 4294967296) × (t.label + 1024 < 4294967296) }
-    requires b_bound { term_kind s.ws.now b < 8 }
+    requires ready { Ready s.vs.ws.now × ((b i : ℕ) → InstrOf s.vs.ws.now b i → InstrReady s.vs.ws.now i) }
+    requires live { Live s.vs.ws.now b × (b + k < 1024) × (t.lookups + instr_count s.vs.ws.now b < 4294967296) × (t.label + 1024 < 4294967296) }
+    requires b_bound { term_kind s.vs.ws.now b < 8 }
     ensures { Lowers (block_ops registers (env_of s.entry) t b k) ops.old spans.old labels.old p ops.new spans.new labels.new result }
 {
     base::bind_label(labels, b as usize, p);
-    let first = input::block_field(s.ws, b, 4);
-    let n = input::block_field(s.ws, b, 5);
+    let first = input::block_field(s.vs.ws, b, 4);
+    let n = input::block_field(s.vs.ws, b, 5);
     let q = instr_runs::put_instrs(ops, spans, p, s, t.lookups, first, n);
-    let next = next_live(s.ws, b + 1, k);
+    let next = next_live(s.vs.ws, b + 1, k);
     terms::put_term(ops, spans, labels, q, s, t.switches, t.label, next, b)
 }
 
@@ -89,14 +89,14 @@ fn put_blocks(
     s: Seen,
     mut t: Tally,
 ) -> Pen
-    requires ready { Ready s.ws.now × ((b i : ℕ) → InstrOf s.ws.now b i → InstrReady s.ws.now i) }
+    requires ready { Ready s.vs.ws.now × ((b i : ℕ) → InstrOf s.vs.ws.now b i → InstrReady s.vs.ws.now i) }
     requires switches_bound { (t.switches ≤ 65534) × (t.lookups ≤ 65534) × (t.label ≤ 2048) }
-    requires by_index { (b : ℕ) → Live s.ws.now b → term_kind s.ws.now b < 8 }
-    ensures { Lowers (blocks_ops registers (env_of s.entry) t 0 (blocks s.entry.ws.now)) ops.old spans.old labels.old p ops.new spans.new labels.new result }
+    requires by_index { (b : ℕ) → Live s.vs.ws.now b → term_kind s.vs.ws.now b < 8 }
+    ensures { Lowers (blocks_ops registers (env_of s.entry) t 0 (blocks s.entry.vs.ws.now)) ops.old spans.old labels.old p ops.new spans.new labels.new result }
 {
-    let n = input::head_field(s.ws, 4);
+    let n = input::head_field(s.vs.ws, 4);
     for b in 0..n {
-        if input::block_field(s.ws, b, 1) != 0 {
+        if input::block_field(s.vs.ws, b, 1) != 0 {
             continue;
         }
         p = put_block(ops, spans, labels, p, s, t, b, n - b - 1);
@@ -133,16 +133,16 @@ pub fn put_body(
     switches: u32,
     lookups: u32,
 ) -> Pen
-    requires ready { Ready s.ws.now × ((b i : ℕ) → InstrOf s.ws.now b i → InstrReady s.ws.now i) }
+    requires ready { Ready s.vs.ws.now × ((b i : ℕ) → InstrOf s.vs.ws.now b i → InstrReady s.vs.ws.now i) }
     requires switches_bound { (switches ≤ 65534) × (lookups ≤ 65534) }
-    requires by_index { (b : ℕ) → Live s.ws.now b → term_kind s.ws.now b < 8 }
+    requires by_index { (b : ℕ) → Live s.vs.ws.now b → term_kind s.vs.ws.now b < 8 }
     ensures { Lowers (body_ops registers (env_of s.entry) switches lookups) ops.old spans.old labels.old p ops.new spans.new labels.new result }
 {
     let t = Tally {
         switches,
         lookups,
-        label: 2 * input::head_field(s.ws, 4),
+        label: 2 * input::head_field(s.vs.ws, 4),
     };
     let q = put_blocks(ops, spans, labels, p, s, t);
-    put_root_ret(ops, spans, q, s.ws)
+    put_root_ret(ops, spans, q, s.vs.ws)
 }

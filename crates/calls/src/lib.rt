@@ -17,6 +17,25 @@ ghost use Rattle.edges.specs.Pairs.{differing_sources, differing_destinations};
 ghost use Rattle.calls.specs.Calls.{masked_from, argument_places, argument_regs, shuffle, call_with, called_as, lower_call, lower_sys, lower_tail};
 
 use base::Pen;
+use edges::Values;
+
+// A call's operands, so many of the pool from `at` on: each has a place that the pushes may raise.
+#[derive(Clone, Copy)]
+pub struct Operands<'a> {
+    pub vs: Values<'a>,
+    pub at: u32,
+    pub count: u32,
+    pub ghost few: { count ≤ 62 },
+    pub ghost places_low: { (i : ℕ) → i < count → place_at vs.map.now (pool_at vs.ws.now (at + i)) + 62 < 4294967296 },
+}
+
+// A call whose result has a place, with the registers noted for it.
+#[derive(Clone, Copy)]
+pub struct Call<'a> {
+    pub operands: Operands<'a>,
+    pub noted: u64,
+    pub dst: u32,
+}
 
 // Registers that a mask can hold.
 const MOST_REGS: usize = 64;
@@ -48,21 +67,13 @@ fn raised_by(pushes: u32, place: u32) -> u32
 }
 
 // The moves of arguments into registers 0 and up, at the front of two columns; how many they are.
-fn gather_arguments(
-    ws: &[u32],
-    map: &[u32],
-    src: &mut [u32],
-    dst: &mut [u32],
-    pushes: u32,
-    at: u32,
-    count: u32,
-) -> usize
-    requires { (count ≤ length src.old) × (count ≤ length dst.old) × ((i : ℕ) → i < count → place_at map.now (pool_at ws.now (at + i)) + pushes < 4294967296) }
-    ensures { (result ≤ count) × (take result src.new ≡ differing_sources (argument_places map.now pushes (list_at ws.now at count)) (argument_regs 0 (list_at ws.now at count))) × (take result dst.new ≡ differing_destinations (argument_places map.now pushes (list_at ws.now at count)) (argument_regs 0 (list_at ws.now at count))) }
+fn gather_arguments(a: Operands, src: &mut [u32], dst: &mut [u32], pushes: u32) -> usize
+    requires { (a.count ≤ length src.old) × (a.count ≤ length dst.old) × (pushes ≤ 62) }
+    ensures { (result ≤ a.entry.count) × (take result src.new ≡ differing_sources (argument_places a.entry.vs.map.now pushes (list_at a.entry.vs.ws.now a.entry.at a.entry.count)) (argument_regs 0 (list_at a.entry.vs.ws.now a.entry.at a.entry.count))) × (take result dst.new ≡ differing_destinations (argument_places a.entry.vs.map.now pushes (list_at a.entry.vs.ws.now a.entry.at a.entry.count)) (argument_regs 0 (list_at a.entry.vs.ws.now a.entry.at a.entry.count))) }
 {
     let mut m = 0;
-    for j in 0..count {
-        let place = lower::place_at(map, input::pool_at(ws, at, j));
+    for j in 0..a.count {
+        let place = lower::place_at(a.vs.map, input::pool_at(a.vs.ws, a.at, j));
         let s = raised_by(pushes, place);
         m = edges::add_pair(src, dst, m, s, j);
     }
@@ -70,41 +81,23 @@ fn gather_arguments(
 }
 
 // Each argument into its register, where so many pushes raise the slots.
-fn put_shuffle(
-    ops: &mut [u64],
-    spans: &mut [u32],
-    p: Pen,
-    ws: &[u32],
-    map: &[u32],
-    pushes: u32,
-    at: u32,
-    count: u32,
-) -> Pen
-    requires { (count ≤ 62) × ((i : ℕ) → i < count → place_at map.now (pool_at ws.now (at + i)) + pushes < 4294967296) }
-    ensures { (l : List ℕ) → Lowers (shuffle registers map.now pushes (list_at ws.now at count)) ops.old spans.old l p ops.new spans.new l result }
+fn put_shuffle(ops: &mut [u64], spans: &mut [u32], p: Pen, a: Operands, pushes: u32) -> Pen
+    requires { pushes ≤ 62 }
+    ensures { (l : List ℕ) → Lowers (shuffle registers a.entry.vs.map.now pushes (list_at a.entry.vs.ws.now a.entry.at a.entry.count)) ops.old spans.old l p ops.new spans.new l result }
 {
     let mut src = [0; MOST_ARGUMENTS];
     let mut dst = [0; MOST_ARGUMENTS];
-    let n = gather_arguments(ws, map, &mut src, &mut dst, pushes, at, count);
+    let n = gather_arguments(a, &mut src, &mut dst, pushes);
     moves_code::put_moves(ops, spans, p, &mut src, &mut dst, n)
 }
 
 // The pushes of the registers, then the arguments.
-fn put_before(
-    ops: &mut [u64],
-    spans: &mut [u32],
-    p: Pen,
-    ws: &[u32],
-    map: &[u32],
-    regs: &[u8],
-    at: u32,
-    count: u32,
-) -> Pen
-    requires { (count ≤ 62) × (length regs.now ≤ 62) × ((i : ℕ) → i < count → place_at map.now (pool_at ws.now (at + i)) + 62 < 4294967296) }
-    ensures { (l : List ℕ) → Lowers (λ q. shuffle registers map.now (length regs.now) (list_at ws.now at count) (emit_all (list.map word (pushes_of regs.now)) q)) ops.old spans.old l p ops.new spans.new l result }
+fn put_before(ops: &mut [u64], spans: &mut [u32], p: Pen, a: Operands, regs: &[u8]) -> Pen
+    requires { length regs.now ≤ 62 }
+    ensures { (l : List ℕ) → Lowers (λ q. shuffle registers a.entry.vs.map.now (length regs.now) (list_at a.entry.vs.ws.now a.entry.at a.entry.count) (emit_all (list.map word (pushes_of regs.now)) q)) ops.old spans.old l p ops.new spans.new l result }
 {
     let pushed = packs::put_pushes(ops, spans, p, regs);
-    put_shuffle(ops, spans, pushed, ws, map, regs.len() as u32, at, count)
+    put_shuffle(ops, spans, pushed, a, regs.len() as u32)
 }
 
 // The result out of register 0, the pops, and the store of a result whose place is a slot.
@@ -117,27 +110,15 @@ fn put_after(ops: &mut [u64], spans: &mut [u32], p: Pen, regs: &[u8], dst: u32) 
 }
 
 // Pushes of the noted registers below the limit, arguments, the op that calls, result, pops.
-fn put_with(
-    ops: &mut [u64],
-    spans: &mut [u32],
-    p: Pen,
-    ws: &[u32],
-    map: &[u32],
-    noted: u64,
-    limit: u8,
-    at: u32,
-    count: u32,
-    called: u64,
-    dst: u32,
-) -> Pen
-    requires { (count ≤ 62) × (limit ≤ 62) × ((i : ℕ) → i < count → place_at map.now (pool_at ws.now (at + i)) + 62 < 4294967296) }
-    ensures { (l : List ℕ) → Lowers (call_with registers map.now (masked_from noted 0 limit) (list_at ws.now at count) called dst) ops.old spans.old l p ops.new spans.new l result }
+fn put_with(ops: &mut [u64], spans: &mut [u32], p: Pen, call: Call, limit: u8, called: u64) -> Pen
+    requires { limit ≤ 62 }
+    ensures { (l : List ℕ) → Lowers (call_with registers call.entry.operands.vs.map.now (masked_from call.entry.noted 0 limit) (list_at call.entry.operands.vs.ws.now call.entry.operands.at call.entry.operands.count) called call.entry.dst) ops.old spans.old l p ops.new spans.new l result }
 {
     let mut regs = [0; MOST_REGS];
-    let k = pushes_of(noted, limit, &mut regs);
-    let ready = put_before(ops, spans, p, ws, map, &regs[..k], at, count);
+    let k = pushes_of(call.noted, limit, &mut regs);
+    let ready = put_before(ops, spans, p, call.operands, &regs[..k]);
     let back = base::put(ops, spans, ready, called);
-    put_after(ops, spans, back, &regs[..k], dst)
+    put_after(ops, spans, back, &regs[..k], call.dst)
 }
 
 // Does native code of a kind return a double?
@@ -169,47 +150,21 @@ pub fn called_as(f: u64) -> u64
 }
 
 // A call of the function of a table word.
-pub fn put_call(
-    ops: &mut [u64],
-    spans: &mut [u32],
-    p: Pen,
-    ws: &[u32],
-    map: &[u32],
-    noted: u64,
-    at: u32,
-    count: u32,
-    f: u64,
-    dst: u32,
-) -> Pen
-    requires count_bound { count ≤ 62 }
-    requires by_index { (i : ℕ) → i < count → place_at map.now (pool_at ws.now (at + i)) + 62 < 4294967296 }
-    ensures { (l : List ℕ) → Lowers (lower_call registers map.now noted (list_at ws.now at count) f dst) ops.old spans.old l p ops.new spans.new l result }
+pub fn put_call(ops: &mut [u64], spans: &mut [u32], p: Pen, call: Call, f: u64) -> Pen
+    ensures { (l : List ℕ) → Lowers (lower_call registers call.entry.operands.vs.map.now call.entry.noted (list_at call.entry.operands.vs.ws.now call.entry.operands.at call.entry.operands.count) f call.entry.dst) ops.old spans.old l p ops.new spans.new l result }
 {
     let called = called_as(f);
-    let limit = place::CALLEE_SAVED.max(count as u8);
-    put_with(ops, spans, p, ws, map, noted, limit, at, count, called, dst)
+    let limit = place::CALLEE_SAVED.max(call.operands.count as u8);
+    put_with(ops, spans, p, call, limit, called)
 }
 
 // A call of a builtin.
-pub fn put_sys(
-    ops: &mut [u64],
-    spans: &mut [u32],
-    p: Pen,
-    ws: &[u32],
-    map: &[u32],
-    noted: u64,
-    at: u32,
-    count: u32,
-    number: u32,
-    dst: u32,
-) -> Pen
-    requires count_bound { count ≤ 62 }
-    requires by_index { (i : ℕ) → i < count → place_at map.now (pool_at ws.now (at + i)) + 62 < 4294967296 }
-    ensures { (l : List ℕ) → Lowers (lower_sys registers map.now noted (list_at ws.now at count) number dst) ops.old spans.old l p ops.new spans.new l result }
+pub fn put_sys(ops: &mut [u64], spans: &mut [u32], p: Pen, call: Call, number: u32) -> Pen
+    ensures { (l : List ℕ) → Lowers (lower_sys registers call.entry.operands.vs.map.now call.entry.noted (list_at call.entry.operands.vs.ws.now call.entry.operands.at call.entry.operands.count) number call.entry.dst) ops.old spans.old l p ops.new spans.new l result }
 {
-    let called = op::sys(number, count as u8);
-    let limit = (count as u8).max(1);
-    put_with(ops, spans, p, ws, map, noted, limit, at, count, called, dst)
+    let count = call.operands.count as u8;
+    let called = op::sys(number, count);
+    put_with(ops, spans, p, call, count.max(1), called)
 }
 
 // May the called function take over the frame? Native code and one with arguments in registers that it keeps may not.
@@ -220,21 +175,11 @@ fn takes_over(f: u64, count: u32) -> bool
 }
 
 // A call whose result is returned.
-pub fn put_tail(
-    ops: &mut [u64],
-    spans: &mut [u32],
-    p: Pen,
-    ws: &[u32],
-    map: &[u32],
-    at: u32,
-    count: u32,
-    f: u64,
-) -> Pen
-    requires { count ≤ 62 }
-    ensures { (l : List ℕ) → Lowers (lower_tail registers map.now (list_at ws.now at count) f) ops.old spans.old l p ops.new spans.new l result }
+pub fn put_tail(ops: &mut [u64], spans: &mut [u32], p: Pen, a: Operands, f: u64) -> Pen
+    ensures { (l : List ℕ) → Lowers (lower_tail registers a.entry.vs.map.now (list_at a.entry.vs.ws.now a.entry.at a.entry.count) f) ops.old spans.old l p ops.new spans.new l result }
 {
-    let ready = put_shuffle(ops, spans, p, ws, map, 0, at, count);
-    if takes_over(f, count) {
+    let ready = put_shuffle(ops, spans, p, a, 0);
+    if takes_over(f, a.count) {
         return base::put(ops, spans, ready, op::tail(number_of(f)));
     }
     let called = base::put(ops, spans, ready, called_as(f));

@@ -14,6 +14,13 @@ ghost use Rattle.edges.specs.Edges.{read_sources, read_destinations, edge_source
 use base::Pen;
 use op::Op;
 
+// A function's words, and the places of its values.
+#[derive(Clone, Copy)]
+pub struct Values<'a> {
+    pub ws: &'a [u32],
+    pub map: &'a [u32],
+}
+
 // Parameters of a block, and so moves of an edge.
 const MOST_MOVES: usize = 190;
 
@@ -38,76 +45,60 @@ fn is_unread(ws: &[u32], p: u32) -> bool
 }
 
 // The pair of an argument and a parameter behind the first m of two columns, unless it needs no move.
-fn add_argument(
-    ws: &[u32],
-    map: &[u32],
-    src: &mut [u32],
-    dst: &mut [u32],
-    m: usize,
-    a: u32,
-    p: u32,
-) -> usize
+fn add_argument(vs: Values, src: &mut [u32], dst: &mut [u32], m: usize, a: u32, p: u32) -> usize
     requires { (m < length src.old) × (m < length dst.old) }
-    ensures { (result ≤ m + 1) × (take result src.new ≡ take m src.old ++ differing_sources (read_sources ws.now map.now (a ∷ []) (p ∷ [])) (read_destinations ws.now map.now (a ∷ []) (p ∷ []))) × (take result dst.new ≡ take m dst.old ++ differing_destinations (read_sources ws.now map.now (a ∷ []) (p ∷ [])) (read_destinations ws.now map.now (a ∷ []) (p ∷ []))) }
+    ensures { (result ≤ m + 1) × (take result src.new ≡ take m src.old ++ differing_sources (read_sources vs.entry.ws.now vs.entry.map.now (a ∷ []) (p ∷ [])) (read_destinations vs.entry.ws.now vs.entry.map.now (a ∷ []) (p ∷ []))) × (take result dst.new ≡ take m dst.old ++ differing_destinations (read_sources vs.entry.ws.now vs.entry.map.now (a ∷ []) (p ∷ [])) (read_destinations vs.entry.ws.now vs.entry.map.now (a ∷ []) (p ∷ []))) }
 {
-    if is_unread(ws, p) {
+    if is_unread(vs.ws, p) {
         return m;
     }
-    let s = lower::place_at(map, a);
-    let d = lower::place_at(map, p);
+    let s = lower::place_at(vs.map, a);
+    let d = lower::place_at(vs.map, p);
     add_pair(src, dst, m, s, d)
 }
 
 // The moves of n arguments from `at` on for as many parameters from `to` on, at the front of two columns; how many they are.
-fn gather(
-    ws: &[u32],
-    map: &[u32],
-    src: &mut [u32],
-    dst: &mut [u32],
-    at: u32,
-    to: u32,
-    n: u32,
-) -> usize
+fn gather(vs: Values, src: &mut [u32], dst: &mut [u32], at: u32, to: u32, n: u32) -> usize
     requires { (n ≤ length src.old) × (n ≤ length dst.old) }
-    ensures { (result ≤ n) × (take result src.new ≡ differing_sources (read_sources ws.now map.now (list_at ws.now at n) (list_at ws.now to n)) (read_destinations ws.now map.now (list_at ws.now at n) (list_at ws.now to n))) × (take result dst.new ≡ differing_destinations (read_sources ws.now map.now (list_at ws.now at n) (list_at ws.now to n)) (read_destinations ws.now map.now (list_at ws.now at n) (list_at ws.now to n))) }
+    ensures { (result ≤ n) × (take result src.new ≡ differing_sources (read_sources vs.entry.ws.now vs.entry.map.now (list_at vs.entry.ws.now at n) (list_at vs.entry.ws.now to n)) (read_destinations vs.entry.ws.now vs.entry.map.now (list_at vs.entry.ws.now at n) (list_at vs.entry.ws.now to n))) × (take result dst.new ≡ differing_destinations (read_sources vs.entry.ws.now vs.entry.map.now (list_at vs.entry.ws.now at n) (list_at vs.entry.ws.now to n)) (read_destinations vs.entry.ws.now vs.entry.map.now (list_at vs.entry.ws.now at n) (list_at vs.entry.ws.now to n))) }
 {
     let mut m = 0;
     for j in 0..n {
-        let a = input::pool_at(ws, at, j);
-        let p = input::pool_at(ws, to, j);
-        m = add_argument(ws, map, src, dst, m, a, p);
+        let a = input::pool_at(vs.ws, at, j);
+        let p = input::pool_at(vs.ws, to, j);
+        m = add_argument(vs, src, dst, m, a, p);
     }
     m
 }
 
 // The moves of an edge, at the front of two columns; how many they are.
-fn gather_edge(ws: &[u32], map: &[u32], e: u32, src: &mut [u32], dst: &mut [u32]) -> usize
-    requires { (length src.old ≡ 190) × (length dst.old ≡ 190) × (param_count ws.now (edge_target ws.now e) ≤ 190) }
-    ensures { (result ≤ 190) × (take result src.new ≡ differing_sources (edge_sources ws.now map.now e) (edge_destinations ws.now map.now e)) × (take result dst.new ≡ differing_destinations (edge_sources ws.now map.now e) (edge_destinations ws.now map.now e)) }
+fn gather_edge(vs: Values, e: u32, src: &mut [u32], dst: &mut [u32]) -> usize
+    requires { (length src.old ≡ 190) × (length dst.old ≡ 190) × (param_count vs.ws.now (edge_target vs.ws.now e) ≤ 190) }
+    ensures { (result ≤ 190) × (take result src.new ≡ differing_sources (edge_sources vs.entry.ws.now vs.entry.map.now e) (edge_destinations vs.entry.ws.now vs.entry.map.now e)) × (take result dst.new ≡ differing_destinations (edge_sources vs.entry.ws.now vs.entry.map.now e) (edge_destinations vs.entry.ws.now vs.entry.map.now e)) }
 {
-    let target = input::edge_field(ws, e, 0);
-    let at = input::edge_field(ws, e, 1);
-    let to = input::block_field(ws, target, 2);
-    let arguments = input::edge_field(ws, e, 2);
-    let parameters = input::block_field(ws, target, 3);
-    gather(ws, map, src, dst, at, to, arguments.min(parameters))
+    let target = input::edge_field(vs.ws, e, 0);
+    let at = input::edge_field(vs.ws, e, 1);
+    let to = input::block_field(vs.ws, target, 2);
+    let arguments = input::edge_field(vs.ws, e, 2);
+    let parameters = input::block_field(vs.ws, target, 3);
+    gather(vs, src, dst, at, to, arguments.min(parameters))
 }
 
 // Does an argument need a move to its parameter?
-fn is_moved(ws: &[u32], map: &[u32], a: u32, p: u32) -> bool
-    ensures { result ≡ ltb 0 (length (differing_sources (read_sources ws.now map.now (a ∷ []) (p ∷ [])) (read_destinations ws.now map.now (a ∷ []) (p ∷ [])))) }
+fn is_moved(vs: Values, a: u32, p: u32) -> bool
+    ensures { result ≡ ltb 0 (length (differing_sources (read_sources vs.entry.ws.now vs.entry.map.now (a ∷ []) (p ∷ [])) (read_destinations vs.entry.ws.now vs.entry.map.now (a ∷ []) (p ∷ [])))) }
 {
-    !is_unread(ws, p) && lower::place_at(map, a) != lower::place_at(map, p)
+    !is_unread(vs.ws, p) && lower::place_at(vs.map, a) != lower::place_at(vs.map, p)
 }
 
 // Does one of n arguments from `at` on for as many parameters from `to` on?
-fn any_moved(ws: &[u32], map: &[u32], at: u32, to: u32, n: u32) -> bool
-    ensures { result ≡ ltb 0 (length (differing_sources (read_sources ws.now map.now (list_at ws.now at n) (list_at ws.now to n)) (read_destinations ws.now map.now (list_at ws.now at n) (list_at ws.now to n)))) }
+fn any_moved(vs: Values, at: u32, to: u32, n: u32) -> bool
+    ensures { result ≡ ltb 0 (length (differing_sources (read_sources vs.entry.ws.now vs.entry.map.now (list_at vs.entry.ws.now at n) (list_at vs.entry.ws.now to n)) (read_destinations vs.entry.ws.now vs.entry.map.now (list_at vs.entry.ws.now at n) (list_at vs.entry.ws.now to n)))) }
 {
     for j in 0..n {
-        let a = input::pool_at(ws, at, j);
-        let p = input::pool_at(ws, to, j);
-        if is_moved(ws, map, a, p) {
+        let a = input::pool_at(vs.ws, at, j);
+        let p = input::pool_at(vs.ws, to, j);
+        if is_moved(vs, a, p) {
             return true;
         }
     }
@@ -115,35 +106,27 @@ fn any_moved(ws: &[u32], map: &[u32], at: u32, to: u32, n: u32) -> bool
 }
 
 // Does an edge have moves?
-pub fn has_moves(ws: &[u32], map: &[u32], e: u32) -> bool
-    ensures { result ≡ has_moves ws.now map.now e }
+pub fn has_moves(vs: Values, e: u32) -> bool
+    ensures { result ≡ has_moves vs.entry.ws.now vs.entry.map.now e }
 {
-    let target = input::edge_field(ws, e, 0);
-    let at = input::edge_field(ws, e, 1);
-    let to = input::block_field(ws, target, 2);
-    let arguments = input::edge_field(ws, e, 2);
-    let parameters = input::block_field(ws, target, 3);
-    any_moved(ws, map, at, to, arguments.min(parameters))
+    let target = input::edge_field(vs.ws, e, 0);
+    let at = input::edge_field(vs.ws, e, 1);
+    let to = input::block_field(vs.ws, target, 2);
+    let arguments = input::edge_field(vs.ws, e, 2);
+    let parameters = input::block_field(vs.ws, target, 3);
+    any_moved(vs, at, to, arguments.min(parameters))
 }
 
 // The moves of an edge, then Jmp, which is dropped when the target is the next live block.
-pub fn put_edge(
-    ops: &mut [u64],
-    spans: &mut [u32],
-    p: Pen,
-    ws: &[u32],
-    map: &[u32],
-    next: u32,
-    e: u32,
-) -> Pen
-    requires { param_count ws.now (edge_target ws.now e) ≤ 190 }
-    ensures { (l : List ℕ) → Lowers (edge registers ws.now map.now next e) ops.old spans.old l p ops.new spans.new l result }
+pub fn put_edge(ops: &mut [u64], spans: &mut [u32], p: Pen, vs: Values, next: u32, e: u32) -> Pen
+    requires { param_count vs.ws.now (edge_target vs.ws.now e) ≤ 190 }
+    ensures { (l : List ℕ) → Lowers (edge registers vs.entry.ws.now vs.entry.map.now next e) ops.old spans.old l p ops.new spans.new l result }
 {
     let mut src = [0; MOST_MOVES];
     let mut dst = [0; MOST_MOVES];
-    let n = gather_edge(ws, map, e, &mut src, &mut dst);
+    let n = gather_edge(vs, e, &mut src, &mut dst);
     let q = moves_code::put_moves(ops, spans, p, &mut src, &mut dst, n);
-    let target = input::edge_field(ws, e, 0);
+    let target = input::edge_field(vs.ws, e, 0);
     if target == next {
         return q;
     }
@@ -163,37 +146,36 @@ pub fn put_branch(
     spans: &mut [u32],
     labels: &mut [u64],
     p: Pen,
-    ws: &[u32],
-    map: &[u32],
+    vs: Values,
     jump: Op,
     label: u32,
     next: u32,
     e: u32,
 ) -> Pen
-    requires { (param_count ws.now (edge_target ws.now e) ≤ 190) × (param_count ws.now (edge_target ws.now (e + 1)) ≤ 190) × (e + 1 < 4294967296) }
-    ensures { Lowers (branch registers ws.now map.now jump label next e) ops.old spans.old labels.old p ops.new spans.new labels.new result }
+    requires { (param_count vs.ws.now (edge_target vs.ws.now e) ≤ 190) × (param_count vs.ws.now (edge_target vs.ws.now (e + 1)) ≤ 190) × (e + 1 < 4294967296) }
+    ensures { Lowers (branch registers vs.entry.ws.now vs.entry.map.now jump label next e) ops.old spans.old labels.old p ops.new spans.new labels.new result }
 {
-    if has_moves(ws, map, e) {
+    if has_moves(vs, e) {
         let jumped = base::put(ops, spans, p, jump_at(jump, label));
-        let nowhere = input::head_field(ws, 4);
-        let q = put_edge(ops, spans, jumped, ws, map, nowhere, e + 1);
+        let nowhere = input::head_field(vs.ws, 4);
+        let q = put_edge(ops, spans, jumped, vs, nowhere, e + 1);
         base::bind_label(labels, label as usize, q);
-        put_edge(ops, spans, q, ws, map, next, e)
+        put_edge(ops, spans, q, vs, next, e)
     } else {
-        let no = input::edge_field(ws, e, 0);
+        let no = input::edge_field(vs.ws, e, 0);
         let jumped = base::put(ops, spans, p, jump_at(jump, no));
-        put_edge(ops, spans, jumped, ws, map, next, e + 1)
+        put_edge(ops, spans, jumped, vs, next, e + 1)
     }
 }
 
 // How many of k edges from e on have moves: each is a case that gets a pad.
-pub fn pad_count(ws: &[u32], map: &[u32], e: u32, k: u32) -> u32
+pub fn pad_count(vs: Values, e: u32, k: u32) -> u32
     requires { e + k < 4294967296 }
-    ensures { result ≡ pad_count ws.now map.now e k }
+    ensures { result ≡ pad_count vs.entry.ws.now vs.entry.map.now e k }
 {
     let mut count = 0;
     for i in 0..k {
-        if has_moves(ws, map, e + i) {
+        if has_moves(vs, e + i) {
             count += 1;
         }
     }
@@ -206,22 +188,21 @@ fn put_pads(
     spans: &mut [u32],
     labels: &mut [u64],
     p: Pen,
-    ws: &[u32],
-    map: &[u32],
+    vs: Values,
     label: u32,
     e: u32,
     k: u32,
 ) -> Pen
-    requires { (e + k < 4294967296) × (label + k < 4294967296) × ((i : ℕ) → i < k → param_count ws.now (edge_target ws.now (e + i)) ≤ 190) }
-    ensures { Lowers (pads registers ws.now map.now label e k) ops.old spans.old labels.old p ops.new spans.new labels.new result }
+    requires { (e + k < 4294967296) × (label + k < 4294967296) × ((i : ℕ) → i < k → param_count vs.ws.now (edge_target vs.ws.now (e + i)) ≤ 190) }
+    ensures { Lowers (pads registers vs.entry.ws.now vs.entry.map.now label e k) ops.old spans.old labels.old p ops.new spans.new labels.new result }
 {
-    let nowhere = input::head_field(ws, 4);
+    let nowhere = input::head_field(vs.ws, 4);
     let mut q = p;
     let mut pad = label;
     for i in 0..k {
-        if has_moves(ws, map, e + i) {
+        if has_moves(vs, e + i) {
             base::bind_label(labels, pad as usize, q);
-            q = put_edge(ops, spans, q, ws, map, nowhere, e + i);
+            q = put_edge(ops, spans, q, vs, nowhere, e + i);
             pad += 1;
         }
     }
@@ -229,14 +210,14 @@ fn put_pads(
 }
 
 // The next block for the default edge: none where pads follow it.
-fn next_block(ws: &[u32], map: &[u32], next: u32, e: u32, cases: u32) -> u32
+fn next_block(vs: Values, next: u32, e: u32, cases: u32) -> u32
     requires { e + cases < 4294967296 }
-    ensures { result ≡ pick (eqb (pad_count ws.now map.now e cases) 0) next (nowhere ws.now) }
+    ensures { result ≡ pick (eqb (pad_count vs.entry.ws.now vs.entry.map.now e cases) 0) next (nowhere vs.entry.ws.now) }
 {
-    if pad_count(ws, map, e, cases) == 0 {
+    if pad_count(vs, e, cases) == 0 {
         next
     } else {
-        input::head_field(ws, 4)
+        input::head_field(vs.ws, 4)
     }
 }
 
@@ -246,17 +227,16 @@ pub fn put_switch_edges(
     spans: &mut [u32],
     labels: &mut [u64],
     p: Pen,
-    ws: &[u32],
-    map: &[u32],
+    vs: Values,
     label: u32,
     next: u32,
     e: u32,
     cases: u32,
 ) -> Pen
-    requires { (e + cases < 4294967296) × (label + cases < 4294967296) × ((i : ℕ) → i ≤ cases → param_count ws.now (edge_target ws.now (e + i)) ≤ 190) }
-    ensures { Lowers (switch_edges registers ws.now map.now label next e cases) ops.old spans.old labels.old p ops.new spans.new labels.new result }
+    requires { (e + cases < 4294967296) × (label + cases < 4294967296) × ((i : ℕ) → i ≤ cases → param_count vs.ws.now (edge_target vs.ws.now (e + i)) ≤ 190) }
+    ensures { Lowers (switch_edges registers vs.entry.ws.now vs.entry.map.now label next e cases) ops.old spans.old labels.old p ops.new spans.new labels.new result }
 {
-    let after = next_block(ws, map, next, e, cases);
-    let q = put_edge(ops, spans, p, ws, map, after, e + cases);
-    put_pads(ops, spans, labels, q, ws, map, label, e, cases)
+    let after = next_block(vs, next, e, cases);
+    let q = put_edge(ops, spans, p, vs, after, e + cases);
+    put_pads(ops, spans, labels, q, vs, label, e, cases)
 }

@@ -3,8 +3,8 @@
 
 ghost use Rattle.std.specs.Prelude.{◌≡◌, true, List, ℕ, ◌+◌, ◌<◌};
 ghost use Rattle.alloc.specs.declared.Alloc.{Alloc};
-ghost use Rattle.input.specs.Layout.{blocks, list_at};
-ghost use Rattle.input.specs.Records.{is_live};
+ghost use Rattle.input.specs.Layout.{blocks};
+ghost use Rattle.input.specs.Records.{is_live, edge_target, arguments_of, params_of};
 ghost use Rattle.rows.specs.Rows.{term};
 ghost use Rattle.assign.specs.Steps.{hints, edge_hints, edges_hints, row_steps};
 ghost use Rattle.assign.specs.Walk.{walk, hint_step, run};
@@ -22,9 +22,14 @@ fn hint_one(map: &[u32], wish: &mut [u32], a: u32, p: u32)
 }
 
 // The arguments of an edge for the parameters of its target.
-fn hint_list(ws: &[u32], map: &[u32], wish: &mut [u32], a: u32, n: u32, p: u32, m: u32)
-    ensures { (s : Alloc) (pool k : List ℕ) → walk s map.now wish.new k ≡ run ws.now pool (hints (list_at ws.now a n) (list_at ws.now p m)) (walk s map.now wish.old k) }
+fn hint_list(ws: &[u32], map: &[u32], wish: &mut [u32], e: u32)
+    ensures { (s : Alloc) (pool k : List ℕ) → walk s map.now wish.new k ≡ run ws.now pool (hints (arguments_of ws.now e) (params_of ws.now (edge_target ws.now e))) (walk s map.now wish.old k) }
 {
+    let t = input::edge_field(ws, e, 0);
+    let a = input::edge_field(ws, e, 1);
+    let n = input::edge_field(ws, e, 2);
+    let p = input::block_field(ws, t, 2);
+    let m = input::block_field(ws, t, 3);
     for j in 0..n.min(m) {
         hint_one(
             map,
@@ -39,15 +44,9 @@ fn hint_list(ws: &[u32], map: &[u32], wish: &mut [u32], a: u32, n: u32, p: u32, 
 fn edge_hints(ws: &[u32], map: &[u32], wish: &mut [u32], b: u32, e: u32)
     ensures { (s : Alloc) (pool k : List ℕ) → walk s map.now wish.new k ≡ run ws.now pool (edge_hints ws.now b e) (walk s map.now wish.old k) }
 {
-    let t = input::edge_field(ws, e, 0);
-    if t <= b {
-        return;
+    if input::edge_field(ws, e, 0) > b {
+        hint_list(ws, map, wish, e);
     }
-    let a = input::edge_field(ws, e, 1);
-    let n = input::edge_field(ws, e, 2);
-    let p = input::block_field(ws, t, 2);
-    let m = input::block_field(ws, t, 3);
-    hint_list(ws, map, wish, a, n, p, m);
 }
 
 // The hints of n edges of block b, from edge `first` on.

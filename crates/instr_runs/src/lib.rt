@@ -17,24 +17,24 @@ use instrs::Seen;
 
 // The place of an instruction's operand k.
 fn operand_place(s: Seen, i: u32, k: u32) -> u32
-    ensures { result ≡ operand_place s.entry.ws.now s.entry.map.now i k }
+    ensures { result ≡ operand_place s.entry.vs.ws.now s.entry.vs.map.now i k }
 {
-    let at = input::instr_field(s.ws, i, 3);
-    lower::place_at(s.map, input::pool_at(s.ws, at, k))
+    let at = input::instr_field(s.vs.ws, i, 3);
+    lower::place_at(s.vs.map, input::pool_at(s.vs.ws, at, k))
 }
 
 // Alloc, Store, Load, AddrOf.
 fn put_memory(ops: &mut [u64], spans: &mut [u32], p: Pen, s: Seen, i: u32) -> Pen
-    requires { instr_ok s.ws.now i ≡ true }
-    ensures { (l : List ℕ) → Lowers (memory_ops registers s.entry.ws.now s.entry.map.now i) ops.old spans.old l p ops.new spans.new l result }
+    requires { instr_ok s.vs.ws.now i ≡ true }
+    ensures { (l : List ℕ) → Lowers (memory_ops registers s.entry.vs.ws.now s.entry.vs.map.now i) ops.old spans.old l p ops.new spans.new l result }
 {
     let d = s.dest_place(i);
     let a = operand_place(s, i, 0);
-    let y = input::instr_field(s.ws, i, 6);
-    match input::instr_field(s.ws, i, 0) {
+    let y = input::instr_field(s.vs.ws, i, 6);
+    match input::instr_field(s.vs.ws, i, 0) {
         kinds::instr::ALLOC => {
-            let x = input::instr_field(s.ws, i, 5);
-            let z = input::instr_field(s.ws, i, 7);
+            let x = input::instr_field(s.vs.ws, i, 5);
+            let z = input::instr_field(s.vs.ws, i, 7);
             lower::put_alloc(ops, spans, p, d, x as u8, y, z as u8)
         }
         kinds::instr::STORE => {
@@ -49,14 +49,14 @@ fn put_memory(ops: &mut [u64], spans: &mut [u32], p: Pen, s: Seen, i: u32) -> Pe
 
 // Operators, casts and Assert, and what put_memory knows. A Noop gives nothing.
 fn put_compute(ops: &mut [u64], spans: &mut [u32], p: Pen, s: Seen, i: u32) -> Pen
-    requires { instr_ok s.ws.now i ≡ true }
-    ensures { (l : List ℕ) → Lowers (compute_ops registers s.entry.ws.now s.entry.map.now i) ops.old spans.old l p ops.new spans.new l result }
+    requires { instr_ok s.vs.ws.now i ≡ true }
+    ensures { (l : List ℕ) → Lowers (compute_ops registers s.entry.vs.ws.now s.entry.vs.map.now i) ops.old spans.old l p ops.new spans.new l result }
 {
-    let x = input::instr_field(s.ws, i, 5);
-    let y = input::instr_field(s.ws, i, 6);
+    let x = input::instr_field(s.vs.ws, i, 5);
+    let y = input::instr_field(s.vs.ws, i, 6);
     let d = s.dest_place(i);
     let a = operand_place(s, i, 0);
-    match input::instr_field(s.ws, i, 0) {
+    match input::instr_field(s.vs.ws, i, 0) {
         kinds::instr::BIN => {
             let b = operand_place(s, i, 1);
             lower::put_bin(ops, spans, p, x as u8, d, a, b)
@@ -70,12 +70,12 @@ fn put_compute(ops: &mut [u64], spans: &mut [u32], p: Pen, s: Seen, i: u32) -> P
 
 // An instruction by its kind; `table` is the number of the next lookup table.
 fn put_instr(ops: &mut [u64], spans: &mut [u32], p: Pen, s: Seen, table: u32, i: u32) -> Pen
-    requires { InstrReady s.ws.now i }
+    requires { InstrReady s.vs.ws.now i }
     ensures { (l : List ℕ) → Lowers (instr_ops registers (env_of s.entry) table i) ops.old spans.old l p ops.new spans.new l result }
 {
-    match input::instr_field(s.ws, i, 0) {
+    match input::instr_field(s.vs.ws, i, 0) {
         kinds::instr::LOAD_CONST => {
-            let c = input::instr_field(s.ws, i, 5);
+            let c = input::instr_field(s.vs.ws, i, 5);
             instrs::put_load_const(ops, spans, p, s, i, c)
         }
         kinds::instr::CALL => instrs::put_call(ops, spans, p, s, i),
@@ -122,15 +122,15 @@ pub fn put_instrs(
     n: u32,
 ) -> Pen
     requires n_bound { (first + n < 4294967296) × (table + n < 4294967296) }
-    requires by_index { (i : ℕ) → first ≤ i → i < first + n → InstrReady s.ws.now i }
+    requires by_index { (i : ℕ) → first ≤ i → i < first + n → InstrReady s.vs.ws.now i }
     ensures { (l : List ℕ) → Lowers (instrs_ops registers (env_of s.entry) table first n) ops.old spans.old l p ops.new spans.new l result }
 {
     let mut q = p;
     let mut t = table;
     for i in first..first + n {
-        q = base::at_span(q, input::instr_field(s.ws, i, 1));
+        q = base::at_span(q, input::instr_field(s.vs.ws, i, 1));
         q = put_instr(ops, spans, q, s, t, i);
-        t += lookup_count(s.ws, i);
+        t += lookup_count(s.vs.ws, i);
     }
     q
 }

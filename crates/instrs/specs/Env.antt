@@ -3,4 +3,4 @@ use Rattle.instrs.specs.declared.Seen.{Seen}
 use Rattle.instrs.specs.Instrs.{Env, seen}
 
 abbrev pub env_of : Seen → Env
-env_of s = seen s.ws.now s.map.now s.noted.now s.functions.now s.globals.now s.builtins.now
+env_of s = seen s.vs.ws.now s.vs.map.now s.noted.now s.functions.now s.globals.now s.builtins.now

@@ -7,6 +7,7 @@ ghost use Rattle.input.specs.Forms.{both};
 ghost use Rattle.lists.specs.Lists.{lists, ListsReady, Listed};
 ghost use Rattle.lists.specs.Parts.{InternedParts, SwitchParts, LookupParts, InternReady, SwitchReady, LookupReady};
 
+use edges::Values;
 use grow::End;
 use refusal::Refusal;
 
@@ -98,7 +99,11 @@ fn switch_tables(
         room: targets.len(),
         full: false,
     };
-    let t = tables::put_switch_targets(ws, &places[..n], targets, e, u.targets);
+    let vs = Values {
+        ws,
+        map: &places[..n],
+    };
+    let t = tables::put_switch_targets(vs, targets, e, u.targets);
     Pair {
         first: h.at,
         second: t.at,

@@ -80,15 +80,15 @@ fn store_entry(ws: &[u32], values: &mut [u64], e: End, i: usize, c: usize)
 }
 
 // The values of n entries, the first of them with the key c.
-fn store_entries(ws: &[u32], values: &mut [u64], e: End, low: u64, start: usize, c: u32, n: u32)
-    requires start_bound { (start < 2 ^ 60) × (low ≡ smallest ws.now (keys_at 2 c n)) }
+fn store_entries(ws: &[u32], values: &mut [u64], t: Slots, low: u64, c: u32, n: u32)
+    requires start_bound { (t.start < 2 ^ 60) × (low ≡ smallest ws.now (keys_at 2 c n)) }
     requires keys_ready { KeysReady ws.now 2 c n }
-    ensures { Grows (store_entries ws.now (keys_at 2 c n) start c n) values.old e values.new e }
+    ensures { Grows (store_entries ws.now (keys_at 2 c n) t.start c n) values.old t.end values.new t.end }
 {
     for j in 0..n {
         let key = c as usize + 2 * j as usize;
         let slot = tables::slot_for(ws, key, low);
-        store_entry(ws, values, e, start + slot, key + 1);
+        store_entry(ws, values, t.end, t.start + slot, key + 1);
     }
 }
 
@@ -101,7 +101,7 @@ fn lookup_slots(ws: &[u32], values: &mut [u64], e: End, k: Range, start: usize, 
     let f = put_default(ws, values, e, i, k.slots);
     let c = input::instr_field(ws, i, 5);
     let n = input::instr_field(ws, i, 6);
-    store_entries(ws, values, f, k.low, start, c, n);
+    store_entries(ws, values, Slots { end: f, start }, k.low, c, n);
     f
 }
 

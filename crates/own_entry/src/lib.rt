@@ -8,6 +8,7 @@ ghost use Rattle.instrs.specs.Instrs.{seen};
 ghost use Rattle.assemble.specs.Assemble.{start_out, function_out, Lowerable, ProgramReady};
 ghost use Rattle.own_entry.specs.OwnEntry.{functions_after, PlacesReady, Assembled};
 
+use edges::Values;
 use instrs::Seen;
 use lists::Used;
 use placing::Placed;
@@ -38,8 +39,10 @@ pub fn put_function(
     let before = base::get_or(functions, id, 0);
     base::set(functions, id, program::bytecode_at(u.ops as u32));
     let s = Seen {
-        ws,
-        map: &places[..n],
+        vs: Values {
+            ws,
+            map: &places[..n],
+        },
         noted: &noted[..n],
         functions,
         globals: &globals[..2 * l.globals],

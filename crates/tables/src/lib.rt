@@ -11,6 +11,7 @@ ghost use Rattle.ready.specs.Ready.{Ready, KeysReady};
 ghost use Rattle.edges.specs.Edges.{has_moves, pad_count};
 ghost use Rattle.tables.specs.Tables.{slot_count, case_keys, switch_head, store_cases, switch_slots, has_switch, switch_heads_after, switch_targets_after};
 
+use edges::Values;
 use grow::End;
 use input::kinds;
 
@@ -126,52 +127,18 @@ fn put_targets(targets: &mut [u32], e: End, x: u32, n: usize) -> End
 }
 
 // A case's target: its pad's label where its edge has moves, else its block. The label of the next pad.
-fn store_case(
-    ws: &[u32],
-    map: &[u32],
-    targets: &mut [u32],
-    e: End,
-    i: usize,
-    label: u32,
-    edge: u32,
-) -> u32
+fn store_case(vs: Values, targets: &mut [u32], e: End, i: usize, label: u32, edge: u32) -> u32
     requires { label + 1 < 4294967296 }
-    ensures value { result ≡ label + pick (has_moves ws.now map.now edge) 1 0 }
-    ensures grows { Grows (λ l. slice_set l i (pick (has_moves ws.now map.now edge) label (edge_target ws.now edge))) targets.old e targets.new e }
+    ensures value { result ≡ label + pick (has_moves vs.entry.ws.now vs.entry.map.now edge) 1 0 }
+    ensures grows { Grows (λ l. slice_set l i (pick (has_moves vs.entry.ws.now vs.entry.map.now edge) label (edge_target vs.entry.ws.now edge))) targets.old e targets.new e }
 {
-    if edges::has_moves(ws, map, edge) {
+    if edges::has_moves(vs, edge) {
         e.store(targets, i, label);
         return label + 1;
     }
-    let target = input::edge_field(ws, edge, 0);
+    let target = input::edge_field(vs.ws, edge, 0);
     e.store(targets, i, target);
     label
-}
-
-// The targets of n cases, the first of them with the key c and an edge; the label of the next pad.
-fn store_cases(
-    ws: &[u32],
-    map: &[u32],
-    targets: &mut [u32],
-    e: End,
-    low: u64,
-    start: usize,
-    label: u32,
-    c: u32,
-    edge: u32,
-    n: u32,
-) -> u32
-    requires start_bound { (start < 2 ^ 60) × (label + n < 4294967296) × (edge + n < 4294967296) × (low ≡ smallest ws.now (keys_at 1 c n)) }
-    requires keys_ready { KeysReady ws.now 1 c n }
-    ensures value { result ≡ label + pad_count ws.now map.now edge n }
-    ensures grows { Grows (store_cases ws.now map.now (keys_at 1 c n) start label c edge n) targets.old e targets.new e }
-{
-    let mut next = label;
-    for j in 0..n {
-        let slot = slot_for(ws, c as usize + j as usize, low);
-        next = store_case(ws, map, targets, e, start + slot, next, edge + j);
-    }
-    next
 }
 
 // The default block of block b's Switch.
@@ -184,28 +151,6 @@ fn default_target(ws: &[u32], b: u32) -> u32
     input::edge_field(ws, last, 0)
 }
 
-// The cases of block b's Switch; the label of the next pad.
-fn block_cases(
-    ws: &[u32],
-    map: &[u32],
-    targets: &mut [u32],
-    e: End,
-    low: u64,
-    start: usize,
-    label: u32,
-    b: u32,
-) -> u32
-    requires start_bound { (start < 2 ^ 60) × (label + term_y ws.now b < 4294967296) × (first_edge ws.now b + term_y ws.now b < 4294967296) × (low ≡ smallest ws.now (case_keys ws.now b)) }
-    requires keys_ready { KeysReady ws.now 1 (term_x ws.now b) (term_y ws.now b) }
-    ensures value { result ≡ label + pad_count ws.now map.now (first_edge ws.now b) (term_y ws.now b) }
-    ensures grows { Grows (store_cases ws.now map.now (case_keys ws.now b) start label (term_x ws.now b) (first_edge ws.now b) (term_y ws.now b)) targets.old e targets.new e }
-{
-    let c = input::block_field(ws, b, 12);
-    let edge = input::block_field(ws, b, 10);
-    let n = input::block_field(ws, b, 13);
-    store_cases(ws, map, targets, e, low, start, label, c, edge, n)
-}
-
 // The end of the targets, where the slots of the next table start, and the label of the next pad.
 #[derive(Clone, Copy)]
 struct Cases {
@@ -214,20 +159,38 @@ struct Cases {
     label: u32,
 }
 
-// The slots of block b's table, if it has one: the default's everywhere, then each case's.
-fn switch_slots(ws: &[u32], map: &[u32], targets: &mut [u32], t: Cases, b: u32) -> Cases
-    requires b_bound { (b < blocks ws.now) × (t.start < 2 ^ 60) × (t.label < 2 ^ 31) }
-    requires ready { Ready ws.now }
-    ensures start_value { (result.start ≡ t.start + pick (has_switch ws.now b) (slot_count ws.now (case_keys ws.now b)) 0) × (result.label ≡ t.label + pick (has_switch ws.now b) (pad_count ws.now map.now (first_edge ws.now b) (term_y ws.now b)) 0) }
-    ensures grows { Grows (λ l. pick (has_switch ws.now b) (switch_slots ws.now map.now t.start t.label b l) l) targets.old t.end targets.new result.end }
+// The cases of block b's Switch, whose least key has the rank `low`; the label of the next pad.
+fn block_cases(vs: Values, targets: &mut [u32], t: Cases, low: u64, b: u32) -> u32
+    requires start_bound { (t.start < 2 ^ 60) × (t.label + term_y vs.ws.now b < 4294967296) × (first_edge vs.ws.now b + term_y vs.ws.now b < 4294967296) × (low ≡ smallest vs.ws.now (case_keys vs.ws.now b)) }
+    requires keys_ready { KeysReady vs.ws.now 1 (term_x vs.ws.now b) (term_y vs.ws.now b) }
+    ensures value { result ≡ t.label + pad_count vs.entry.ws.now vs.entry.map.now (first_edge vs.entry.ws.now b) (term_y vs.entry.ws.now b) }
+    ensures grows { Grows (store_cases vs.entry.ws.now vs.entry.map.now (case_keys vs.entry.ws.now b) t.start t.label (term_x vs.entry.ws.now b) (first_edge vs.entry.ws.now b) (term_y vs.entry.ws.now b)) targets.old t.end targets.new t.end }
 {
-    if !has_switch(ws, b) {
+    let c = input::block_field(vs.ws, b, 12);
+    let edge = input::block_field(vs.ws, b, 10);
+    let n = input::block_field(vs.ws, b, 13);
+    let mut next = t.label;
+    for j in 0..n {
+        let slot = slot_for(vs.ws, c as usize + j as usize, low);
+        next = store_case(vs, targets, t.end, t.start + slot, next, edge + j);
+    }
+    next
+}
+
+// The slots of block b's table, if it has one: the default's everywhere, then each case's.
+fn switch_slots(vs: Values, targets: &mut [u32], t: Cases, b: u32) -> Cases
+    requires b_bound { (b < blocks vs.ws.now) × (t.start < 2 ^ 60) × (t.label < 2 ^ 31) }
+    requires ready { Ready vs.ws.now }
+    ensures start_value { (result.start ≡ t.start + pick (has_switch vs.entry.ws.now b) (slot_count vs.entry.ws.now (case_keys vs.entry.ws.now b)) 0) × (result.label ≡ t.label + pick (has_switch vs.entry.ws.now b) (pad_count vs.entry.ws.now vs.entry.map.now (first_edge vs.entry.ws.now b) (term_y vs.entry.ws.now b)) 0) }
+    ensures grows { Grows (λ l. pick (has_switch vs.entry.ws.now b) (switch_slots vs.entry.ws.now vs.entry.map.now t.start t.label b l) l) targets.old t.end targets.new result.end }
+{
+    if !has_switch(vs.ws, b) {
         return t;
     }
-    let k = case_range(ws, b);
-    let other = default_target(ws, b);
+    let k = case_range(vs.ws, b);
+    let other = default_target(vs.ws, b);
     let end = put_targets(targets, t.end, other, k.slots);
-    let label = block_cases(ws, map, targets, end, k.low, t.start, t.label, b);
+    let label = block_cases(vs, targets, Cases { end, ..t }, k.low, b);
     Cases {
         end,
         start: t.start + k.slots,
@@ -236,19 +199,19 @@ fn switch_slots(ws: &[u32], map: &[u32], targets: &mut [u32], t: Cases, b: u32) 
 }
 
 // The slots of a function's switch tables.
-pub fn put_switch_targets(ws: &[u32], map: &[u32], targets: &mut [u32], e: End, used: usize) -> End
+pub fn put_switch_targets(vs: Values, targets: &mut [u32], e: End, used: usize) -> End
     requires used_bound { used < 4294967296 }
-    requires ready { Ready ws.now }
-    ensures { Grows (switch_targets_after ws.now map.now used) targets.old e targets.new result }
+    requires ready { Ready vs.ws.now }
+    ensures { Grows (switch_targets_after vs.entry.ws.now vs.entry.map.now used) targets.old e targets.new result }
 {
-    let end = input::head_field(ws, 4);
+    let end = input::head_field(vs.ws, 4);
     let mut t = Cases {
         end: e,
         start: used,
         label: 2 * end,
     };
     for b in 0..end {
-        t = switch_slots(ws, map, targets, t, b);
+        t = switch_slots(vs, targets, t, b);
     }
     t.end
 }

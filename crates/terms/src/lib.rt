@@ -12,6 +12,7 @@ ghost use Rattle.instrs.specs.Instrs.{seen};
 ghost use Rattle.terms.specs.Terms.{term_place, return_ops, branch_ops, switch_ops, term_ops};
 
 use base::Pen;
+use calls::Operands;
 use input::kinds;
 use instrs::Seen;
 use op::Op;
@@ -27,17 +28,17 @@ const NOP: Op = Op {
 
 // The place of a terminator's operand k.
 fn term_place(s: Seen, b: u32, k: u32) -> u32
-    ensures { result ≡ term_place s.entry.ws.now s.entry.map.now b k }
+    ensures { result ≡ term_place s.entry.vs.ws.now s.entry.vs.map.now b k }
 {
-    let at = input::block_field(s.ws, b, 8);
-    lower::place_at(s.map, input::pool_at(s.ws, at, k))
+    let at = input::block_field(s.vs.ws, b, 8);
+    lower::place_at(s.vs.map, input::pool_at(s.vs.ws, at, k))
 }
 
 // Return of a value moves it to register 0.
 fn put_return(ops: &mut [u64], spans: &mut [u32], p: Pen, s: Seen, b: u32) -> Pen
-    ensures { (l : List ℕ) → Lowers (return_ops registers s.entry.ws.now s.entry.map.now b) ops.old spans.old l p ops.new spans.new l result }
+    ensures { (l : List ℕ) → Lowers (return_ops registers s.entry.vs.ws.now s.entry.vs.map.now b) ops.old spans.old l p ops.new spans.new l result }
 {
-    if input::block_field(s.ws, b, 9) == 0 {
+    if input::block_field(s.vs.ws, b, 9) == 0 {
         return base::put(ops, spans, p, op::ret());
     }
     let a = term_place(s, b, 0);
@@ -90,18 +91,18 @@ fn put_branches(
     next: u32,
     b: u32,
 ) -> Pen
-    requires ws_bound { (blocks s.ws.now ≤ 1024) × (b < 1024) × (first_edge s.ws.now b + 1 < 4294967296) }
-    requires b_bound { (param_count s.ws.now (edge_target s.ws.now (first_edge s.ws.now b)) ≤ 190) × (param_count s.ws.now (edge_target s.ws.now (first_edge s.ws.now b + 1)) ≤ 190) }
-    ensures { Lowers (branch_ops registers s.entry.ws.now s.entry.map.now next b) ops.old spans.old labels.old p ops.new spans.new labels.new result }
+    requires ws_bound { (blocks s.vs.ws.now ≤ 1024) × (b < 1024) × (first_edge s.vs.ws.now b + 1 < 4294967296) }
+    requires b_bound { (param_count s.vs.ws.now (edge_target s.vs.ws.now (first_edge s.vs.ws.now b)) ≤ 190) × (param_count s.vs.ws.now (edge_target s.vs.ws.now (first_edge s.vs.ws.now b + 1)) ≤ 190) }
+    ensures { Lowers (branch_ops registers s.entry.vs.ws.now s.entry.vs.map.now next b) ops.old spans.old labels.old p ops.new spans.new labels.new result }
 {
-    let label = input::head_field(s.ws, 4) + b;
-    let e = input::block_field(s.ws, b, 10);
+    let label = input::head_field(s.vs.ws, 4) + b;
+    let e = input::block_field(s.vs.ws, b, 10);
     let x = term_place(s, b, 0);
     let l = lower::operand_reg(x, p.last);
     let mut q = lower::put_fetch(ops, spans, p, x);
-    let jump = match input::block_field(s.ws, b, 6) {
+    let jump = match input::block_field(s.vs.ws, b, 6) {
         kinds::term::BRANCH => jump_f(l),
-        kinds::term::BRANCH_CMP_IMM => jump_ne_i(l, input::block_field(s.ws, b, 13)),
+        kinds::term::BRANCH_CMP_IMM => jump_ne_i(l, input::block_field(s.vs.ws, b, 13)),
         _ => {
             let y = term_place(s, b, 1);
             let r = lower::operand_reg(y, q.last);
@@ -109,7 +110,7 @@ fn put_branches(
             jump_s_ne(l, r)
         }
     };
-    edges::put_branch(ops, spans, labels, q, s.ws, s.map, jump, label, next, e)
+    edges::put_branch(ops, spans, labels, q, s.vs, jump, label, next, e)
 }
 
 // Switch, with the number of its table, and the label of its first pad.
@@ -124,17 +125,17 @@ fn put_switch(
     next: u32,
     b: u32,
 ) -> Pen
-    requires b_bound { (first_edge s.ws.now b + term_y s.ws.now b < 4294967296) × (label + term_y s.ws.now b < 4294967296) }
-    requires by_index { (i : ℕ) → i ≤ term_y s.ws.now b → param_count s.ws.now (edge_target s.ws.now (first_edge s.ws.now b + i)) ≤ 190 }
-    ensures { Lowers (switch_ops registers s.entry.ws.now s.entry.map.now table label next b) ops.old spans.old labels.old p ops.new spans.new labels.new result }
+    requires b_bound { (first_edge s.vs.ws.now b + term_y s.vs.ws.now b < 4294967296) × (label + term_y s.vs.ws.now b < 4294967296) }
+    requires by_index { (i : ℕ) → i ≤ term_y s.vs.ws.now b → param_count s.vs.ws.now (edge_target s.vs.ws.now (first_edge s.vs.ws.now b + i)) ≤ 190 }
+    ensures { Lowers (switch_ops registers s.entry.vs.ws.now s.entry.vs.map.now table label next b) ops.old spans.old labels.old p ops.new spans.new labels.new result }
 {
     let a = term_place(s, b, 0);
     let x = lower::operand_reg(a, p.last);
     let q = lower::put_fetch(ops, spans, p, a);
     let r = base::put(ops, spans, q, op::switch(x, table));
-    let e = input::block_field(s.ws, b, 10);
-    let cases = input::block_field(s.ws, b, 13);
-    edges::put_switch_edges(ops, spans, labels, r, s.ws, s.map, label, next, e, cases)
+    let e = input::block_field(s.vs.ws, b, 10);
+    let cases = input::block_field(s.vs.ws, b, 13);
+    edges::put_switch_edges(ops, spans, labels, r, s.vs, label, next, e, cases)
 }
 
 // A terminator by its kind.
@@ -149,33 +150,29 @@ pub fn put_term(
     next: u32,
     b: u32,
 ) -> Pen
-    requires ready { Ready s.ws.now × Live s.ws.now b × (label + 1024 < 4294967296) }
-    requires b_bound { term_kind s.ws.now b < 8 }
-    ensures { (noted globals builtins : List ℕ) → Lowers (term_ops registers (seen s.entry.ws.now s.entry.map.now noted s.entry.functions.now globals builtins) table label next b) ops.old spans.old labels.old p ops.new spans.new labels.new result }
+    requires ready { Ready s.vs.ws.now × Live s.vs.ws.now b × (label + 1024 < 4294967296) }
+    requires b_bound { term_kind s.vs.ws.now b < 8 }
+    ensures { (noted globals builtins : List ℕ) → Lowers (term_ops registers (seen s.entry.vs.ws.now s.entry.vs.map.now noted s.entry.functions.now globals builtins) table label next b) ops.old spans.old labels.old p ops.new spans.new labels.new result }
 {
-    let kind = input::block_field(s.ws, b, 6);
+    let kind = input::block_field(s.vs.ws, b, 6);
     if kind == kinds::term::NONE {
         return p;
     }
-    let q = base::at_span(p, input::block_field(s.ws, b, 7));
+    let q = base::at_span(p, input::block_field(s.vs.ws, b, 7));
     match kind {
         kinds::term::RETURN => put_return(ops, spans, q, s, b),
         kinds::term::JUMP => {
-            edges::put_edge(
-                ops,
-                spans,
-                q,
-                s.ws,
-                s.map,
-                next,
-                input::block_field(s.ws, b, 10),
-            )
+            let e = input::block_field(s.vs.ws, b, 10);
+            edges::put_edge(ops, spans, q, s.vs, next, e)
         }
         kinds::term::TAIL => {
-            let f = base::get_or(s.functions, input::block_field(s.ws, b, 12) as usize, 0);
-            let at = input::block_field(s.ws, b, 8);
-            let count = input::block_field(s.ws, b, 9);
-            calls::put_tail(ops, spans, q, s.ws, s.map, at, count, f)
+            let f = base::get_or(s.functions, input::block_field(s.vs.ws, b, 12) as usize, 0);
+            let a = Operands {
+                vs: s.vs,
+                at: input::block_field(s.vs.ws, b, 8),
+                count: input::block_field(s.vs.ws, b, 9),
+            };
+            calls::put_tail(ops, spans, q, a, f)
         }
         kinds::term::SWITCH => put_switch(ops, spans, labels, q, s, table, label, next, b),
         _ => put_branches(ops, spans, labels, q, s, next, b),

@@ -7,55 +7,30 @@ ghost use Rattle.place.specs.Registers.{registers};
 ghost use Rattle.alloc.specs.Good.{Good};
 ghost use Rattle.input.specs.Layout.{blocks, values, list_at};
 ghost use Rattle.input.specs.Records.{first_instr, instr_count};
-ghost use Rattle.rows.specs.Rows.{instr_rows, block_rows, rows_of, refs, maybe, defs_of};
-ghost use Rattle.assign.specs.Walk.{walk, pool_of, first_hints, assigned, used_below, all_placed};
+ghost use Rattle.rows.specs.Rows.{params, instr_rows, block_rows, rows_of, refs, maybe, defs_of};
+ghost use Rattle.assign.specs.Steps.{row_steps};
+ghost use Rattle.assign.specs.Walk.{walk, run, pool_of, first_hints, assigned, used_below, all_placed};
 ghost use Rattle.assign.specs.Fits.{Fits, Lent, run_rows, rows_placed};
 
 use alloc::Alloc;
+use assign::AtRow;
 
 // The rows of n instructions from `first` on.
-fn instr_list(
-    s: Alloc,
-    ws: &[u32],
-    map: &mut [u32],
-    wish: &[u32],
-    noted: &mut [u64],
-    pool: &[u8],
-    row: u32,
-    first: u32,
-    n: u32,
-) -> Alloc
-    requires n_bound { (first + n < 4294967296) × (row + n < 4294967296) }
+fn instr_list(s: Alloc, map: &mut [u32], noted: &mut [u64], r: AtRow, first: u32, n: u32) -> Alloc
+    requires n_bound { (first + n < 4294967296) × (r.row + n < 4294967296) }
     requires good { Good s }
     ensures good_2 { Good result }
-    ensures noted_after { walk result map.new wish.now noted.new ≡ run_rows ws.now pool.now row (instr_rows first n) (walk s map.old wish.now noted.old) }
+    ensures noted_after { walk result map.new r.entry.wish.now noted.new ≡ run_rows r.entry.ws.now r.entry.pool.now r.entry.row (instr_rows first n) (walk s map.old r.entry.wish.now noted.old) }
 {
     let mut t = s;
     for j in 0..n {
-        t = assign::one_instr(t, ws, map, wish, noted, pool, row + j, first + j);
+        let here = AtRow {
+            row: r.row + j,
+            ..r
+        };
+        t = assign::one_instr(t, map, noted, here, first + j);
     }
     t
-}
-
-// The rows of a block's instructions.
-fn block_instrs(
-    s: Alloc,
-    ws: &[u32],
-    map: &mut [u32],
-    wish: &[u32],
-    noted: &mut [u64],
-    pool: &[u8],
-    row: u32,
-    b: u32,
-) -> Alloc
-    requires b_bound { (first_instr ws.now b + instr_count ws.now b < 4294967296) × (row + instr_count ws.now b < 4294967296) }
-    requires good { Good s }
-    ensures good_2 { Good result }
-    ensures noted_after { walk result map.new wish.now noted.new ≡ run_rows ws.now pool.now row (instr_rows (first_instr ws.now b) (instr_count ws.now b)) (walk s map.old wish.now noted.old) }
-{
-    let first = input::block_field(ws, b, 4);
-    let n = input::block_field(ws, b, 5);
-    instr_list(s, ws, map, wish, noted, pool, row, first, n)
 }
 
 // How many rows a block takes.
@@ -69,34 +44,31 @@ fn rows_of(ws: &[u32], b: u32) -> usize
     (input::block_field(ws, b, 5) as usize) + 2
 }
 
-// The rows of block b.
-fn one_block(
-    s: Alloc,
-    ws: &[u32],
-    map: &mut [u32],
-    wish: &mut [u32],
-    noted: &mut [u64],
-    pool: &[u8],
-    row: u32,
-    b: u32,
-) -> Alloc
-    requires b_bound { (b < blocks ws.now) × (row + length (block_rows ws.now b) < 4294967296) }
-    requires fits { Fits ws.now }
+// The rows of a live block's parameters and instructions.
+fn live_block(s: Alloc, map: &mut [u32], noted: &mut [u64], r: AtRow, b: u32) -> Alloc
+    requires b_bound { (first_instr r.ws.now b + instr_count r.ws.now b < 4294967296) × (r.row + 1 + instr_count r.ws.now b < 4294967296) }
+    requires fits { Fits r.ws.now }
     requires good { Good s }
     ensures good_2 { Good result }
-    ensures noted_after { walk result map.new wish.new noted.new ≡ run_rows ws.now pool.now row (block_rows ws.now b) (walk s map.old wish.old noted.old) }
+    ensures noted_after { walk result map.new r.entry.wish.now noted.new ≡ run_rows r.entry.ws.now r.entry.pool.now (r.entry.row + 1) (instr_rows (first_instr r.entry.ws.now b) (instr_count r.entry.ws.now b)) (run r.entry.ws.now r.entry.pool.now (row_steps r.entry.ws.now r.entry.row (params b)) (walk s map.old r.entry.wish.now noted.old)) }
 {
-    let dead = input::block_field(ws, b, 1);
-    if dead != 0 {
-        return s;
-    }
-    let t = assign::param_list(s, ws, map, wish, pool, row, b);
-    let u = block_instrs(t, ws, map, wish, noted, pool, row + 1, b);
-    hints::block_edges(ws, map, wish, b);
-    u
+    let first = input::block_field(r.ws, b, 4);
+    let n = input::block_field(r.ws, b, 5);
+    let t = assign::param_list(s, map, r, b);
+    instr_list(
+        t,
+        map,
+        noted,
+        AtRow {
+            row: r.row + 1,
+            ..r
+        },
+        first,
+        n,
+    )
 }
 
-// The rows of all blocks.
+// The rows of all blocks. A live block's terminator wishes for its successors.
 fn all_blocks(
     s: Alloc,
     ws: &[u32],
@@ -114,7 +86,16 @@ fn all_blocks(
     let mut t = s;
     let mut row: usize = 0;
     for b in 0..n {
-        t = one_block(t, ws, map, wish, noted, pool, row as u32, b);
+        if input::block_field(ws, b, 1) == 0 {
+            let r = AtRow {
+                ws,
+                wish,
+                pool,
+                row: row as u32,
+            };
+            t = live_block(t, map, noted, r, b);
+            hints::block_edges(ws, map, wish, b);
+        }
         row += rows_of(ws, b);
     }
     t

@@ -9,18 +9,18 @@ use Rattle.assign.proofs.place_list.Goals as goal
 pub loop-j-init : goal.loop-j-init
 loop-j-init c = let a = c.args in record {
   good = c.requires;
-  left = λ m. left_all (λ (i k : ℕ). run a.ws.now a.pool.now (places a.row (list_at a.ws.now i k)) (walk a.s a.map.now a.wish.now m)) a.at a.n;
+  left = λ m. left_all (λ (i k : ℕ). run a.r.ws.now a.r.pool.now (places a.r.row (list_at a.r.ws.now i k)) (walk a.s a.map.now a.r.wish.now m)) a.at a.n;
 }
 
 pub loop-j-preserved : goal.loop-j-preserved
 loop-j-preserved c = let a = c.args in
     let l = c.loop-j in
-    let ws = a.ws.now in
-    let pool = a.pool.now in record {
+    let ws = a.r.ws.now in
+    let pool = a.r.pool.now in record {
       good = c.place_value-t.ensures.good;
       left = λ m.
-          ap (run ws pool (places a.row (list_at ws (a.at + (l.j + 1)) (a.n - (l.j + 1))))) (rw c.pool_at-v.ensures at (c.place_value-t.ensures.by_index m))
-          ∙ sym (places-turn ws pool a.row a.at l.j a.n (walk l.t l.map a.wish.now m) c.loop-j-test.true)
+          ap (run ws pool (places a.r.row (list_at ws (a.at + (l.j + 1)) (a.n - (l.j + 1))))) (rw c.pool_at-v.ensures at (c.place_value-t.ensures.by_index m))
+          ∙ sym (places-turn ws pool a.r.row a.at l.j a.n (walk l.t l.map a.r.wish.now m) c.loop-j-test.true)
           ∙ l.invariant.left m;
     }
 
@@ -28,5 +28,5 @@ pub returns : goal.returns
 returns c = let a = c.args in
     let l = c.loop-j in record {
       good = l.invariant.good;
-      by_index = λ m. sym (places-end a.ws.now a.pool.now a.row a.at l.j a.n (walk l.t l.map a.wish.now m) c.loop-j-test.false) ∙ l.invariant.left m;
+      by_index = λ m. sym (places-end a.r.ws.now a.r.pool.now a.r.row a.at l.j a.n (walk l.t l.map a.r.wish.now m) c.loop-j-test.false) ∙ l.invariant.left m;
     }

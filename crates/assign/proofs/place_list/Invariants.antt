@@ -9,5 +9,5 @@ use Rattle.assign.proofs.place_list.Given as goal
 abbrev pub invariant-loop-j : goal.invariant-loop-j
 invariant-loop-j l = record {
   good : Good l.t;
-  left : (m : List ℕ) → run l.ws l.pool (places l.row (list_at l.ws (l.at + l.j) (l.n - l.j))) (walk l.t l.map l.wish m) ≡ run l.ws l.pool (places l.row (list_at l.ws l.at l.n)) (walk l.initial.t l.initial.map l.wish m);
+  left : (m : List ℕ) → run l.r.ws.now l.r.pool.now (places l.r.row (list_at l.r.ws.now (l.at + l.j) (l.n - l.j))) (walk l.t l.map l.r.wish.now m) ≡ run l.r.ws.now l.r.pool.now (places l.r.row (list_at l.r.ws.now l.at l.n)) (walk l.initial.t l.initial.map l.r.wish.now m);
 }

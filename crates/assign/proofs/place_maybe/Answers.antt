@@ -8,8 +8,8 @@ use Rattle.assign.proofs.place_maybe.Goals as goal
 
 pub returns-then-d-eq0 : goal.returns-then-d-eq0
 returns-then-d-eq0 c = let a = c.args in
-    record { good = c.requires; by_index = λ n. sym (maybe_none a.ws.now a.pool.now a.row (walk a.s a.map.now a.wish.now n) a.d c.if-d-eq0.true) }
+    record { good = c.requires; by_index = λ n. sym (maybe_none a.r.ws.now a.r.pool.now a.r.row (walk a.s a.map.now a.r.wish.now n) a.d c.if-d-eq0.true) }
 
 pub returns : goal.returns
 returns c = let a = c.args in
-    let h : 0 < a.d = omega (arith, c.if-d-eq0.false) in record { good = c.place_value.ensures.good; by_index = λ n. c.place_value.ensures.by_index n ∙ sym (maybe-some a.ws.now a.pool.now a.row (walk a.s a.map.now a.wish.now n) a.d h) }
+    let h : 0 < a.d = omega (arith, c.if-d-eq0.false) in record { good = c.place_value.ensures.good; by_index = λ n. c.place_value.ensures.by_index n ∙ sym (maybe-some a.r.ws.now a.r.pool.now a.r.row (walk a.s a.map.now a.r.wish.now n) a.d h) }

@@ -13,5 +13,5 @@ use Rattle.body.proofs.put_blocks.Given as goal
 abbrev pub invariant-loop-b : goal.invariant-loop-b
 invariant-loop-b l =
     Tallied l.t l.b × (length l.ops ≡ length l.initial.ops) × (length l.spans ≡ length l.initial.spans) × (length l.labels ≡ length l.initial.labels)
-    × Left (blocks_ops registers (env_of l.s) l.t l.b (l.n - l.b)) (blocks_ops registers (env_of l.s) l.initial.t 0 (blocks l.s.ws.now))
+    × Left (blocks_ops registers (env_of l.s) l.t l.b (l.n - l.b)) (blocks_ops registers (env_of l.s) l.initial.t 0 (blocks l.s.vs.ws.now))
     l.initial.ops l.initial.spans l.initial.labels l.initial.p l.ops l.spans l.labels l.p

@@ -14,8 +14,8 @@ loop-j-preserved c =
     let s = rw (c.place_at-place.ensures, c.pool_at.ensures) at c.raised_by-s.ensures in
     let r = c.add_pair-m in (
       omega (arith, v.0, r.ensures.0),
-      toward_turn _ _ _ _ v.1 (counted-turn (from-counted a.ws.now a.map.now a.pushes a.at) a.count l.j h) (rw s at r.ensures.1),
-      toward_turn _ _ _ _ v.2 (counted-turn (to_counted a.ws.now a.map.now a.pushes a.at) a.count l.j h) (rw s at r.ensures.2),
+      toward_turn _ _ _ _ v.1 (counted-turn (from-counted a.a.vs.ws.now a.a.vs.map.now a.pushes a.a.at) a.a.count l.j h) (rw s at r.ensures.1),
+      toward_turn _ _ _ _ v.2 (counted-turn (to_counted a.a.vs.ws.now a.a.vs.map.now a.pushes a.a.at) a.a.count l.j h) (rw s at r.ensures.2),
     )
 
 pub returns : goal.returns
@@ -25,6 +25,6 @@ returns c =
     let v = l.invariant in
     let h = c.loop-j-test.false in (
       omega arith,
-      toward_end v.1 (counted-end (from-counted a.ws.now a.map.now a.pushes a.at) a.count l.j h),
-      toward_end v.2 (counted-end (to_counted a.ws.now a.map.now a.pushes a.at) a.count l.j h),
+      toward_end v.1 (counted-end (from-counted a.a.vs.ws.now a.a.vs.map.now a.pushes a.a.at) a.a.count l.j h),
+      toward_end v.2 (counted-end (to_counted a.a.vs.ws.now a.a.vs.map.now a.pushes a.a.at) a.a.count l.j h),
     )

@@ -8,5 +8,5 @@ use Rattle.calls.proofs.gather_arguments.Given as goal
 abbrev pub invariant-loop-j : goal.invariant-loop-j
 invariant-loop-j l =
     (l.m ≤ l.j)
-    × Toward (shuffled_from l.ws l.map l.pushes l.j (list_at l.ws (l.at + l.j) (l.count - l.j))) (shuffled_from l.ws l.map l.pushes 0 (list_at l.ws l.at l.count)) l.src l.m
-    × Toward (shuffled_to l.ws l.map l.pushes l.j (list_at l.ws (l.at + l.j) (l.count - l.j))) (shuffled_to l.ws l.map l.pushes 0 (list_at l.ws l.at l.count)) l.dst l.m
+    × Toward (shuffled_from l.a.vs.ws.now l.a.vs.map.now l.pushes l.j (list_at l.a.vs.ws.now (l.a.at + l.j) (l.a.count - l.j))) (shuffled_from l.a.vs.ws.now l.a.vs.map.now l.pushes 0 (list_at l.a.vs.ws.now l.a.at l.a.count)) l.src l.m
+    × Toward (shuffled_to l.a.vs.ws.now l.a.vs.map.now l.pushes l.j (list_at l.a.vs.ws.now (l.a.at + l.j) (l.a.count - l.j))) (shuffled_to l.a.vs.ws.now l.a.vs.map.now l.pushes 0 (list_at l.a.vs.ws.now l.a.at l.a.count)) l.dst l.m

@@ -6,5 +6,6 @@ use Rattle.calls.proofs.put_call.Goals as goal
 pub returns : goal.returns
 returns c =
     let a = c.args in
-    λ l. call_function registers a.ws.now a.map.now a.noted a.at a.count a.dst a.f c.called_as-called.ensures c.max-limit.ensures
+    let k = a.call in
+    λ l. call_function registers k.operands.vs.ws.now k.operands.vs.map.now k.noted k.operands.at k.operands.count k.dst a.f c.called_as-called.ensures c.max-limit.ensures
     (c.put_with.ensures l)

@@ -8,4 +8,4 @@ pub returns : goal.returns
 returns c =
     let a = c.args in
     let g = c.gather_arguments-n.ensures in
-    λ l. shuffled registers a.map.now a.pushes (list_at a.ws.now a.at a.count) _ _ g.1 g.2 (c.put_moves.ensures l)
+    λ l. shuffled registers a.a.vs.map.now a.pushes (list_at a.a.vs.ws.now a.a.at a.a.count) _ _ g.1 g.2 (c.put_moves.ensures l)

@@ -7,5 +7,6 @@ use Rattle.calls.proofs.put_sys.Goals as goal
 pub returns : goal.returns
 returns c =
     let a = c.args in
-    λ l. call_builtin registers a.ws.now a.map.now a.noted a.at a.count a.dst a.number c.sys-called.ensures (omega (arith, c.max-limit.ensures))
+    let k = a.call in
+    λ l. call_builtin registers k.operands.vs.ws.now k.operands.vs.map.now k.noted k.operands.at k.operands.count k.dst a.number c.sys-called.ensures (omega (arith, c.max.ensures))
     (c.put_with.ensures l)

@@ -6,6 +6,6 @@ use Rattle.calls.proofs.put_with.Goals as goal
 
 pub returns : goal.returns
 returns c =
-    let a = c.args in
-    λ l. call-whole registers a.map.now _ (list_at a.ws.now a.at a.count) _ _ c.pushes_of-k.ensures.1 (c.put_before-ready.ensures l)
+    let k = c.args.call in
+    λ l. call-whole registers k.operands.vs.map.now _ (list_at k.operands.vs.ws.now k.operands.at k.operands.count) _ _ c.pushes_of-k.ensures.1 (c.put_before-ready.ensures l)
     (c.put-back.ensures l) (c.put_after.ensures l)

@@ -15,8 +15,8 @@ loop-j-preserved c =
     let y = c.pool_at-p.ensures in
     let r = c.add_argument-m in (
       omega (arith, v.0, r.ensures.0),
-      toward_turn _ _ _ _ v.1 (counted-turn (from-counted a.ws.now a.map.now a.at a.to) a.n l.j h) (rw (x, y) at r.ensures.1),
-      toward_turn _ _ _ _ v.2 (counted-turn (to_counted a.ws.now a.map.now a.at a.to) a.n l.j h) (rw (x, y) at r.ensures.2),
+      toward_turn _ _ _ _ v.1 (counted-turn (from-counted a.vs.ws.now a.vs.map.now a.at a.to) a.n l.j h) (rw (x, y) at r.ensures.1),
+      toward_turn _ _ _ _ v.2 (counted-turn (to_counted a.vs.ws.now a.vs.map.now a.at a.to) a.n l.j h) (rw (x, y) at r.ensures.2),
     )
 
 pub returns : goal.returns
@@ -26,6 +26,6 @@ returns c =
     let v = l.invariant in
     let h = c.loop-j-test.false in (
       omega arith,
-      toward_end v.1 (counted-end (from-counted a.ws.now a.map.now a.at a.to) a.n l.j h),
-      toward_end v.2 (counted-end (to_counted a.ws.now a.map.now a.at a.to) a.n l.j h),
+      toward_end v.1 (counted-end (from-counted a.vs.ws.now a.vs.map.now a.at a.to) a.n l.j h),
+      toward_end v.2 (counted-end (to_counted a.vs.ws.now a.vs.map.now a.at a.to) a.n l.j h),
     )

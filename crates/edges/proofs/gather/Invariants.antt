@@ -8,5 +8,5 @@ use Rattle.edges.proofs.gather.Given as goal
 abbrev pub invariant-loop-j : goal.invariant-loop-j
 invariant-loop-j l =
     (l.m ≤ l.j)
-    × Toward (moved_from l.ws l.map (list_at l.ws (l.at + l.j) (l.n - l.j)) (list_at l.ws (l.to + l.j) (l.n - l.j))) (moved_from l.ws l.map (list_at l.ws l.at l.n) (list_at l.ws l.to l.n)) l.src l.m
-    × Toward (moved_to l.ws l.map (list_at l.ws (l.at + l.j) (l.n - l.j)) (list_at l.ws (l.to + l.j) (l.n - l.j))) (moved_to l.ws l.map (list_at l.ws l.at l.n) (list_at l.ws l.to l.n)) l.dst l.m
+    × Toward (moved_from l.vs.ws.now l.vs.map.now (list_at l.vs.ws.now (l.at + l.j) (l.n - l.j)) (list_at l.vs.ws.now (l.to + l.j) (l.n - l.j))) (moved_from l.vs.ws.now l.vs.map.now (list_at l.vs.ws.now l.at l.n) (list_at l.vs.ws.now l.to l.n)) l.src l.m
+    × Toward (moved_to l.vs.ws.now l.vs.map.now (list_at l.vs.ws.now (l.at + l.j) (l.n - l.j)) (list_at l.vs.ws.now (l.to + l.j) (l.n - l.j))) (moved_to l.vs.ws.now l.vs.map.now (list_at l.vs.ws.now l.at l.n) (list_at l.vs.ws.now l.to l.n)) l.dst l.m

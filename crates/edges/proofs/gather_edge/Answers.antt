@@ -14,6 +14,6 @@ returns c =
     let to = rw t at c.block_field-to.ensures in
     let r = c.gather.ensures in (
       omega (arith, r.0, n, c.requires.2),
-      r.1 ∙ edge-from a.ws.now a.map.now a.e _ _ _ at to n,
-      r.2 ∙ edge_to a.ws.now a.map.now a.e _ _ _ at to n,
+      r.1 ∙ edge-from a.vs.ws.now a.vs.map.now a.e _ _ _ at to n,
+      r.2 ∙ edge_to a.vs.ws.now a.vs.map.now a.e _ _ _ at to n,
     )

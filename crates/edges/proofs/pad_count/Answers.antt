@@ -13,10 +13,10 @@ loop-i-preserved c =
     let m = c.has_moves.ensures in
     elim c.if-has_moves.branch [
       | then-has_moves w ↦
-          let t = count_pad a.ws.now a.map.now a.e a.k l.i h (sym m ∙ w.if-has_moves.true) in
+          let t = count_pad a.vs.ws.now a.vs.map.now a.e a.k l.i h (sym m ∙ w.if-has_moves.true) in
           (omega (arith, w.count-is), omega (arith, l.invariant.1, w.count-is))
       | else-has_moves w ↦
-          let t = count_skip a.ws.now a.map.now a.e a.k l.i h (sym m ∙ w.if-has_moves.false) in
+          let t = count_skip a.vs.ws.now a.vs.map.now a.e a.k l.i h (sym m ∙ w.if-has_moves.false) in
           (omega (arith, w.count-is), omega (arith, l.invariant.1, w.count-is))
     ]
 
@@ -24,4 +24,4 @@ pub returns : goal.returns
 returns c =
     let a = c.args in
     let l = c.loop-i in
-    omega (arith, l.invariant.1, count-end a.ws.now a.map.now a.e a.k l.i c.loop-i-test.false)
+    omega (arith, l.invariant.1, count-end a.vs.ws.now a.vs.map.now a.e a.k l.i c.loop-i-test.false)

@@ -7,11 +7,11 @@ pub returns-then-target-next : goal.returns-then-target-next
 returns-then-target-next c =
     let a = c.args in
     let g = c.gather_edge-n.ensures in
-    λ l. edge_falls registers a.ws.now a.map.now a.next a.e _ _ _ g.1 g.2 c.edge_field-target.ensures (c.put_moves-q.ensures l) c.if-target-next.true
+    λ l. edge_falls registers a.vs.ws.now a.vs.map.now a.next a.e _ _ _ g.1 g.2 c.edge_field-target.ensures (c.put_moves-q.ensures l) c.if-target-next.true
 
 pub returns : goal.returns
 returns c =
     let a = c.args in
     let g = c.gather_edge-n.ensures in
-    λ l. edge_jumps registers a.ws.now a.map.now a.next a.e _ _ _ g.1 g.2 c.edge_field-target.ensures (c.put_moves-q.ensures l) c.if-target-next.false
+    λ l. edge_jumps registers a.vs.ws.now a.vs.map.now a.next a.e _ _ _ g.1 g.2 c.edge_field-target.ensures (c.put_moves-q.ensures l) c.if-target-next.false
     c.jmp.ensures (c.put.ensures l)

@@ -19,16 +19,16 @@ loop-i-preserved c =
           rw (w.ops-is, w.spans-is, w.labels-is, w.q-is, w.pad-is) (
             omega (arith, v.0),
             left-turn _ v.1 (then (w.bind_label.ensures _ _) (w.put_edge-q.ensures _))
-                (pads_pad a.ws.now a.map.now a.e registers a.k l.pad l.i h (sym m ∙ w.if-has_moves.true) c.head_field-nowhere.ensures),
+                (pads_pad a.vs.ws.now a.vs.map.now a.e registers a.k l.pad l.i h (sym m ∙ w.if-has_moves.true) c.head_field-nowhere.ensures),
           )
       | else-has_moves w ↦
           rw (w.ops-is, w.spans-is, w.labels-is, w.q-is, w.pad-is) (
             omega (arith, v.0),
-            left-turn _ v.1 (lowers_none _ _ _ _) (pads_skip a.ws.now a.map.now a.e registers a.k l.pad l.i h (sym m ∙ w.if-has_moves.false)),
+            left-turn _ v.1 (lowers_none _ _ _ _) (pads_skip a.vs.ws.now a.vs.map.now a.e registers a.k l.pad l.i h (sym m ∙ w.if-has_moves.false)),
           )
     ]
 
 pub returns : goal.returns
 returns c =
     let a = c.args in
-    left_end c.loop-i.invariant.1 (pads-end a.ws.now a.map.now a.e registers a.k _ _ c.loop-i-test.false)
+    left_end c.loop-i.invariant.1 (pads-end a.vs.ws.now a.vs.map.now a.e registers a.k _ _ c.loop-i-test.false)

@@ -9,4 +9,4 @@ use Rattle.edges.proofs.put_pads.Given as goal
 abbrev pub invariant-loop-i : goal.invariant-loop-i
 invariant-loop-i l =
     (l.pad ≤ l.label + l.i)
-    × Left (pads_from l.ws l.map l.e registers l.k l.pad l.i) (pads registers l.ws l.map l.label l.e l.k) l.initial.ops l.initial.spans l.initial.labels l.initial.q l.ops l.spans l.labels l.q
+    × Left (pads_from l.vs.ws.now l.vs.map.now l.e registers l.k l.pad l.i) (pads registers l.vs.ws.now l.vs.map.now l.label l.e l.k) l.initial.ops l.initial.spans l.initial.labels l.initial.q l.ops l.spans l.labels l.q

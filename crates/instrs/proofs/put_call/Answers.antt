@@ -5,4 +5,4 @@ use Rattle.instrs.proofs.put_call.Goals as goal
 pub returns : goal.returns
 returns c =
     λ l.
-    call_as _ _ _ _ _ c.instr_field-at.ensures c.instr_field-count.ensures c.noted_for-mask.ensures c.dest_place.ensures _ c.instr_field.ensures c.get_or-f.ensures (c.put_call.ensures l)
+    call_as _ _ _ _ _ c.instr_field-at.ensures c.instr_field-count.ensures c.noted_for.ensures c.dest_place.ensures _ c.instr_field.ensures c.get_or-f.ensures (c.put_call.ensures l)

@@ -9,4 +9,4 @@ overflow_cast-number c = omega (arith, builtin_few _ c.args.s.builtins.now c.fin
 pub returns : goal.returns
 returns c =
     λ l.
-    sys_as _ _ _ _ _ c.instr_field-at.ensures c.instr_field-args.ensures c.noted_for-mask.ensures c.dest_place.ensures _ c.instr_field-x.ensures c.find_builtin-number.ensures (c.put_sys.ensures l)
+    sys_as _ _ _ _ _ c.instr_field-at.ensures c.instr_field-count.ensures c.noted_for.ensures c.dest_place.ensures _ c.instr_field-x.ensures c.find_builtin-number.ensures (c.put_sys.ensures l)

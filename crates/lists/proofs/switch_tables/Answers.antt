@@ -10,8 +10,8 @@ use Rattle.lists.proofs.Kept.{switches_start, targets_start}
 use Rattle.lists.proofs.Making.{ended, parts}
 use Rattle.lists.proofs.switch_tables.Goals as goal
 
-pub slice_bounds-put_switch_targets-end : goal.slice_bounds-put_switch_targets-end
-slice_bounds-put_switch_targets-end c = sym (length-take-le _ _ (omega (arith, c.head_field-n.ensures, c.requires.placed)))
+pub slice_bounds-vs-end : goal.slice_bounds-vs-end
+slice_bounds-vs-end c = sym (length-take-le _ _ (omega (arith, c.head_field-n.ensures, c.requires.placed)))
 
 pub returns : goal.returns
 returns c =

@@ -4,4 +4,4 @@ use Rattle.lookups.proofs.Lookups.{EntriesLeft}
 use Rattle.lookups.proofs.store_entries.Given as goal
 
 abbrev pub invariant-loop-j : goal.invariant-loop-j
-invariant-loop-j l = EntriesLeft l.ws (keys_at 2 l.c l.n) l.start l.c l.n l.initial.values l.e l.j l.values l.e
+invariant-loop-j l = EntriesLeft l.ws (keys_at 2 l.c l.n) l.t.start l.c l.n l.initial.values l.t.end l.j l.values l.t.end

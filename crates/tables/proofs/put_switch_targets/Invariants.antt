@@ -7,5 +7,5 @@ abbrev pub invariant-loop-b : goal.invariant-loop-b
 invariant-loop-b l = record {
   few_slots : l.t.start ≤ l.used + 4096 * l.b;
   few_pads : l.t.label ≤ 2 * l.end + 1024 * l.b;
-  left : TargetsLeft l.ws l.map l.used l.end l.initial.targets l.initial.t.end l.t.start l.t.label l.b l.targets l.t.end;
+  left : TargetsLeft l.vs.ws.now l.vs.map.now l.used l.end l.initial.targets l.initial.t.end l.t.start l.t.label l.b l.targets l.t.end;
 }

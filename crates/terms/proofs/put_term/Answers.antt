@@ -14,12 +14,12 @@ returns-in-1 c =
 pub returns-in-2 : goal.returns-in-2
 returns-in-2 c =
     λ noted globals builtins.
-    term_jump _ _ _ _ _ _ c.block_field-kind.ensures c.block_field.ensures (c.at_span-q.ensures _ _ _) c.in-2.is c.block_field-in-2.ensures (c.put_edge.ensures _)
+    term_jump _ _ _ _ _ _ c.block_field-kind.ensures c.block_field.ensures (c.at_span-q.ensures _ _ _) c.in-2.is c.block_field-e.ensures (c.put_edge.ensures _)
 
 pub returns-in-6 : goal.returns-in-6
 returns-in-6 c =
     λ noted globals builtins.
-    term_tail _ _ _ _ _ _ c.block_field-kind.ensures c.block_field.ensures (c.at_span-q.ensures _ _ _) c.in-6.is c.block_field-at.ensures c.block_field-count.ensures
+    term_tail _ _ _ _ _ _ c.block_field-kind.ensures c.block_field.ensures (c.at_span-q.ensures _ _ _) c.in-6.is c.block_field-in-6-2.ensures c.block_field-in-6-3.ensures
     c.block_field-in-6.ensures c.get_or-f.ensures (c.put_tail.ensures _)
 
 pub returns-in-7 : goal.returns-in-7

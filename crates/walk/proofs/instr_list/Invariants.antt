@@ -10,5 +10,5 @@ use Rattle.walk.proofs.instr_list.Given as goal
 abbrev pub invariant-loop-j : goal.invariant-loop-j
 invariant-loop-j l = record {
   good : Good l.t;
-  left : run_rows l.ws l.pool (l.row + l.j) (instr_rows (l.first + l.j) (l.n - l.j)) (walk l.t l.map l.wish l.noted) ≡ run_rows l.ws l.pool l.row (instr_rows l.first l.n) (walk l.initial.t l.initial.map l.wish l.initial.noted);
+  left : run_rows l.r.ws.now l.r.pool.now (l.r.row + l.j) (instr_rows (l.first + l.j) (l.n - l.j)) (walk l.t l.map l.r.wish.now l.noted) ≡ run_rows l.r.ws.now l.r.pool.now l.r.row (instr_rows l.first l.n) (walk l.initial.t l.initial.map l.r.wish.now l.initial.noted);
 }
