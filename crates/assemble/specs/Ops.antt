@@ -25,7 +25,7 @@ out_of regs env u = framed regs (function_span env.ws) (body_ops registers env u
 pub record PlacesLow (places : List ℕ) : Type 0 where
   pub low : (v : ℕ) → place_at places v + 62 < 4294967296
 
--- no label is bound, and a frame has no more than so many registers
+-- no label is bound, and the frame has 192 registers at most
 pub record FrameReady (labels regs : List ℕ) : Type 0 where
   pub unbound : (t : ℕ) → ◌≡◌ {A = ℕ} (get_or labels t 0) 0
   pub few : length regs ≤ 192
