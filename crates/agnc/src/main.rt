@@ -29,10 +29,10 @@ fn run(command: Command, ws: &[u32], table: &mut Table) -> Result<(), Problem> {
     let mut ends = [0u32; 256];
     let n = file::split(ws, &mut ends)?;
     let found = &ends[..n];
-    let _ = match command {
+    match command {
         Command::Show(form) => commands::show_program(form, ws, found, table),
         Command::Judge => commands::judge_all(ws, found, table),
-    };
+    }
     Ok(())
 }
 

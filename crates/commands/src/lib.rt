@@ -10,7 +10,6 @@ use listing::{
 use lists::Used;
 use opnames::Stream;
 use refusal::Refusal;
-use std::fmt;
 use std::fmt::Write;
 use strings::Unfit;
 
@@ -130,21 +129,21 @@ impl<'a> Program<'a> {
     }
 
     // The ops are shown by functions for a person.
-    fn show(&self, form: Form) -> fmt::Result {
+    fn show(&self, form: Form) {
         let n = self.used;
         match form {
-            Form::Listing => listing::functions(&self.facts, &self.ops, &self.spans)?,
-            Form::Plain => listing::op_lines(form, &self.ops, &self.spans, 0, n.ops)?,
+            Form::Listing => listing::functions(&self.facts, &self.ops, &self.spans),
+            Form::Plain => listing::op_lines(form, &self.ops, &self.spans, 0, n.ops),
         }
-        listing::list_lines(form, &self.globals, n.globals, &self.builtins, n.builtins)?;
-        listing::entry_lines(form, self.table)?;
-        listing::switch_lines(form, &self.switches, n.switches, &self.targets, n.targets)?;
-        listing::lookup_lines(form, &self.lookups, n.lookups, &self.values, n.values)?;
-        listing::places(form, &self.facts, &self.places)
+        listing::list_lines(form, &self.globals, n.globals, &self.builtins, n.builtins);
+        listing::entry_lines(form, self.table);
+        listing::switch_lines(form, &self.switches, n.switches, &self.targets, n.targets);
+        listing::lookup_lines(form, &self.lookups, n.lookups, &self.values, n.values);
+        listing::places(form, &self.facts, &self.places);
     }
 
     // Nothing is shown where the strings find no room.
-    fn run(&mut self, form: Form, ws: &[u32], ends: &[u32]) -> fmt::Result {
+    fn run(&mut self, form: Form, ws: &[u32], ends: &[u32]) {
         let outcome = match self.with_strings(ws, ends) {
             Ok(()) => self.add_all(ws, ends),
             Err(
@@ -153,37 +152,37 @@ impl<'a> Program<'a> {
                     ..
                 },
             ) => {
-                return writeln!(
+                let _ = writeln!(
                     Stream::Error,
                     "agnc: the functions have more strings than there is room for"
                 );
+                return;
             }
             refused => refused,
         };
-        self.show(form)?;
-        match outcome {
-            Ok(()) => Ok(()),
-            Err(refused) => show_refused(form, ws, ends, refused),
+        self.show(form);
+        if let Err(refused) = outcome {
+            show_refused(form, ws, ends, refused);
         }
     }
 }
 
 // A refusal, as it is said on standard error; in the plain form it is a line, too.
-fn show_refused(form: Form, ws: &[u32], ends: &[u32], refused: Unfit) -> fmt::Result {
+fn show_refused(form: Form, ws: &[u32], ends: &[u32], refused: Unfit) {
     let f = refused.index;
     let id = base::get_or(words_of(ws, ends, f), 0, 0);
     let why = Verdict(Err(refused.why));
     if form == Form::Plain {
-        writeln!(Stream::Output, "refused {why} {f} {id}")?;
+        let _ = writeln!(Stream::Output, "refused {why} {f} {id}");
     }
-    writeln!(
+    let _ = writeln!(
         Stream::Error,
         "agnc: refused: {why}, function {f} of the file, id {id}"
-    )
+    );
 }
 
 // The program of these functions, as a listing or in the plain form.
-pub fn show_program(form: Form, ws: &[u32], ends: &[u32], table: &mut Table) -> fmt::Result {
+pub fn show_program(form: Form, ws: &[u32], ends: &[u32], table: &mut Table) {
     let mut program = Program {
         table,
         ops: [0; 65536],
@@ -199,24 +198,22 @@ pub fn show_program(form: Form, ws: &[u32], ends: &[u32], table: &mut Table) -> 
         places: [0; 87424],
         kept: 0,
     };
-    program.run(form, ws, ends)
+    program.run(form, ws, ends);
 }
 
 // Function f's line; then it counts as compiled, unless it is marked unused.
-fn judge_one(ws: &[u32], f: usize, table: &mut Table) -> fmt::Result {
+fn judge_one(ws: &[u32], f: usize, table: &mut Table) {
     let id = base::get_or(ws, 0, 0);
     let answer = Verdict(judge::judge(ws, table));
-    writeln!(Stream::Output, "function {f}, id {id}: {answer}")?;
+    let _ = writeln!(Stream::Output, "function {f}, id {id}: {answer}");
     if base::get_or(ws, 2, 0) == 0 {
         base::set(table, id as usize, program::bytecode_at(0));
     }
-    Ok(())
 }
 
 // Each function's number.
-pub fn judge_all(ws: &[u32], ends: &[u32], table: &mut Table) -> fmt::Result {
+pub fn judge_all(ws: &[u32], ends: &[u32], table: &mut Table) {
     for f in 0..ends.len() {
-        judge_one(words_of(ws, ends, f), f, table)?;
+        judge_one(words_of(ws, ends, f), f, table);
     }
-    Ok(())
 }

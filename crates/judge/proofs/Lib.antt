@@ -6,3 +6,4 @@ pub mod Rooms
 pub mod Few
 pub mod Lowest
 pub mod Verdicts
+pub mod Numbers

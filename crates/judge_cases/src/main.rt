@@ -5,7 +5,7 @@
 // words the function table has, each of these, low half first, how many words the function has, and these.
 #![tactic(auto)]
 
-ghost use Rattle.std.specs.Prelude.{◌≡◌, ◌≤◌};
+ghost use Rattle.std.specs.Prelude.{◌≡◌, ◌≤◌, length};
 
 use lists::Used;
 use records::CutShort;
@@ -278,7 +278,16 @@ fn with_calls(t: Tally, ws: &[u32], table: &[u64], functions: &mut [u64], expect
     tally
 }
 
-// The next case of the file. The compiler is lent a copy of the function table.
+// The case's calls and its verdict. The compiler is lent a copy of the function table.
+fn with_case(t: Tally, ws: &[u32], table: &[u64], expected: u32) -> Tally
+    requires { length table.now ≤ 65536 }
+{
+    let mut lent = [0u64; MOST_FUNCTIONS];
+    let called = with_calls(t, ws, table, &mut lent[..table.len()], expected);
+    with_verdict(called, ws, table, expected)
+}
+
+// The next case of the file.
 fn replay_case(
     tally: Tally,
     bytes: &mut [u8],
@@ -291,9 +300,7 @@ fn replay_case(
     if MOST_FUNCTIONS < t {
         return Err(CutShort);
     }
-    let mut lent = records::filled::<u64, MOST_FUNCTIONS>(0);
-    let called = with_calls(tally, &ws[..n], &table[..t], &mut lent[..t], expected);
-    Ok(with_verdict(called, &ws[..n], &table[..t], expected))
+    Ok(with_case(tally, &ws[..n], &table[..t], expected))
 }
 
 fn report(t: Tally) {

@@ -15,7 +15,6 @@
 mod text;
 
 use opnames::Stream;
-use std::fmt;
 use std::fmt::Write;
 pub use text::Verdict;
 use text::{Constant, Entry, Mnemonic, Word};
@@ -72,124 +71,114 @@ pub type Facts = [Option<Fact>; 256];
 pub type Kept = [u32; 87424];
 
 // Where a title says how many there are; the plain form has none.
-fn title(form: Form, name: &str, n: usize) -> fmt::Result {
-    match form {
-        Form::Listing => writeln!(Stream::Output, "\n{name} {n}"),
-        Form::Plain => Ok(()),
+fn title(form: Form, name: &str, n: usize) {
+    if form == Form::Listing {
+        let _ = writeln!(Stream::Output, "\n{name} {n}");
     }
 }
 
-fn op_line(form: Form, pc: usize, word: u64, span: u32) -> fmt::Result {
-    match form {
+fn op_line(form: Form, pc: usize, word: u64, span: u32) {
+    let _ = match form {
         Form::Listing => {
             let op = Mnemonic(op::unpack(word));
             writeln!(Stream::Output, "{pc:5}  {word:016x}  {op}  span {span}")
         }
         Form::Plain => writeln!(Stream::Output, "op {pc} {word:016x} {span}"),
-    }
+    };
 }
 
-pub fn op_lines(form: Form, ops: &Ops, spans: &Spans, from: usize, to: usize) -> fmt::Result {
+pub fn op_lines(form: Form, ops: &Ops, spans: &Spans, from: usize, to: usize) {
     for pc in from..to {
         op_line(
             form,
             pc,
             base::get_or(ops, pc, 0),
             base::get_or(spans, pc, 0),
-        )?;
+        );
     }
-    Ok(())
 }
 
 // The ops of function f under its heading.
-fn function_ops(f: usize, fact: Fact, ops: &Ops, spans: &Spans) -> fmt::Result {
+fn function_ops(f: usize, fact: Fact, ops: &Ops, spans: &Spans) {
     let id = fact.id;
     match fact.state {
-        State::Unused => writeln!(Stream::Output, "function {f}, id {id}, unused"),
+        State::Unused => {
+            let _ = writeln!(Stream::Output, "function {f}, id {id}, unused");
+        }
         State::Compiled { from, to, .. } => {
-            writeln!(Stream::Output, "function {f}, id {id}, from pc {from}")?;
-            op_lines(Form::Listing, ops, spans, from, to)
+            let _ = writeln!(Stream::Output, "function {f}, id {id}, from pc {from}");
+            op_lines(Form::Listing, ops, spans, from, to);
         }
     }
 }
 
 // The ops of all functions, each under its heading.
-pub fn functions(facts: &Facts, ops: &Ops, spans: &Spans) -> fmt::Result {
+pub fn functions(facts: &Facts, ops: &Ops, spans: &Spans) {
     for (f, fact) in facts.iter().enumerate() {
         if let Some(fact) = fact {
-            function_ops(f, *fact, ops, spans)?;
+            function_ops(f, *fact, ops, spans);
         }
     }
-    Ok(())
 }
 
 // A constant with its number.
-fn pair_line(form: Form, name: &str, i: usize, c: Constant) -> fmt::Result {
-    match form {
+fn pair_line(form: Form, name: &str, i: usize, c: Constant) {
+    let _ = match form {
         Form::Listing => writeln!(Stream::Output, "{i:5}  {c}"),
         Form::Plain => {
             let kind = c.kind;
             let payload = c.payload;
             writeln!(Stream::Output, "{name} {i} {kind} {payload:016x}")
         }
-    }
+    };
 }
 
 // The first n constants of a list of pairs.
-fn pair_lines(form: Form, name: &str, list: &[u64], n: usize) -> fmt::Result {
+pub fn pair_lines(form: Form, name: &str, list: &[u64], n: usize) {
     let (pairs, _) = list.as_chunks::<2>();
     for (i, &[kind, payload]) in pairs.iter().take(n).enumerate() {
-        pair_line(form, name, i, Constant { kind, payload })?;
+        pair_line(form, name, i, Constant { kind, payload });
     }
-    Ok(())
 }
 
 // The first n numbers of a list.
-fn number_lines(form: Form, name: &str, list: &[u32], n: usize) -> fmt::Result {
+fn number_lines(form: Form, name: &str, list: &[u32], n: usize) {
     for (i, number) in list.iter().take(n).enumerate() {
-        match form {
-            Form::Listing => writeln!(Stream::Output, "{i:5}  {number}")?,
-            Form::Plain => writeln!(Stream::Output, "{name} {i} {number}")?,
-        }
+        let _ = match form {
+            Form::Listing => writeln!(Stream::Output, "{i:5}  {number}"),
+            Form::Plain => writeln!(Stream::Output, "{name} {i} {number}"),
+        };
     }
-    Ok(())
 }
 
-pub fn list_lines(
-    form: Form,
-    globals: &Globals,
-    n: usize,
-    builtins: &Builtins,
-    m: usize,
-) -> fmt::Result {
-    title(form, "globals", n)?;
-    pair_lines(form, "global", globals, n)?;
-    title(form, "builtins", m)?;
-    number_lines(form, "builtin", builtins, m)
+pub fn list_lines(form: Form, globals: &Globals, n: usize, builtins: &Builtins, m: usize) {
+    title(form, "globals", n);
+    pair_lines(form, "global", globals, n);
+    title(form, "builtins", m);
+    number_lines(form, "builtin", builtins, m);
 }
 
-fn entry_line(form: Form, id: usize, word: u64) -> fmt::Result {
-    match form {
+fn entry_line(form: Form, id: usize, word: u64) {
+    let _ = match form {
         Form::Listing => writeln!(Stream::Output, "{id:5}  {}", Entry(word)),
         Form::Plain => writeln!(Stream::Output, "entry {id} {word:016x}"),
-    }
+    };
 }
 
 // The function table.
-pub fn entry_lines(form: Form, table: &Table) -> fmt::Result {
+pub fn entry_lines(form: Form, table: &Table) {
     if form == Form::Listing {
-        writeln!(Stream::Output, "\nfunction table")?;
+        let _ = writeln!(Stream::Output, "\nfunction table");
     }
     for (id, word) in table.iter().enumerate() {
         if *word != 0 {
-            entry_line(form, id, *word)?;
+            entry_line(form, id, *word);
         }
     }
-    Ok(())
 }
 
 // The slots of a switch table for a person: each key, and where it goes.
-fn case_lines(targets: &Targets, first: u64, start: u64, count: u64) -> fmt::Result {
+fn case_lines(targets: &Targets, first: u64, start: u64, count: u64) {
     for (k, pc) in targets
         .iter()
         .skip(start as usize)
@@ -197,43 +186,37 @@ fn case_lines(targets: &Targets, first: u64, start: u64, count: u64) -> fmt::Res
         .enumerate()
     {
         let key = first.wrapping_add(k as u64).cast_signed();
-        writeln!(Stream::Output, "       key {key} -> {pc}")?;
+        let _ = writeln!(Stream::Output, "       key {key} -> {pc}");
     }
-    Ok(())
 }
 
-fn switch_line(form: Form, i: usize, table: &[u64; 3], targets: &Targets) -> fmt::Result {
+fn switch_line(form: Form, i: usize, table: &[u64; 3], targets: &Targets) {
     let [first, start, count] = *table;
     match form {
         Form::Listing => {
-            writeln!(Stream::Output, "{i:5}  slots from {start}")?;
-            case_lines(targets, first, start, count)
+            let _ = writeln!(Stream::Output, "{i:5}  slots from {start}");
+            case_lines(targets, first, start, count);
         }
-        Form::Plain => writeln!(Stream::Output, "switch {i} {first:016x} {start} {count}"),
+        Form::Plain => {
+            let _ = writeln!(Stream::Output, "switch {i} {first:016x} {start} {count}");
+        }
     }
 }
 
 // The first n switch tables, and the first m slots.
-pub fn switch_lines(
-    form: Form,
-    switches: &Switches,
-    n: usize,
-    targets: &Targets,
-    m: usize,
-) -> fmt::Result {
-    title(form, "switch tables", n)?;
+pub fn switch_lines(form: Form, switches: &Switches, n: usize, targets: &Targets, m: usize) {
+    title(form, "switch tables", n);
     let (tables, _) = switches.as_chunks::<3>();
     for (i, table) in tables.iter().take(n).enumerate() {
-        switch_line(form, i, table, targets)?;
+        switch_line(form, i, table, targets);
     }
-    match form {
-        Form::Listing => Ok(()),
-        Form::Plain => number_lines(form, "target", targets, m),
+    if form == Form::Plain {
+        number_lines(form, "target", targets, m);
     }
 }
 
 // The slots of a lookup table for a person: each key, and what it stands for.
-fn key_lines(values: &Values, first: u64, start: u64, count: u64) -> fmt::Result {
+fn key_lines(values: &Values, first: u64, start: u64, count: u64) {
     let (pairs, _) = values.as_chunks::<2>();
     for (k, &[kind, payload]) in pairs
         .iter()
@@ -243,42 +226,36 @@ fn key_lines(values: &Values, first: u64, start: u64, count: u64) -> fmt::Result
     {
         let key = first.wrapping_add(k as u64).cast_signed();
         let value = Constant { kind, payload };
-        writeln!(Stream::Output, "       key {key}: {value}")?;
+        let _ = writeln!(Stream::Output, "       key {key}: {value}");
     }
-    Ok(())
 }
 
-fn lookup_line(form: Form, i: usize, table: &[u64; 5], values: &Values) -> fmt::Result {
+fn lookup_line(form: Form, i: usize, table: &[u64; 5], values: &Values) {
     let [first, start, count, kind, payload] = *table;
     match form {
         Form::Listing => {
             let rest = Constant { kind, payload };
-            writeln!(Stream::Output, "{i:5}  slots from {start}, default {rest}")?;
-            key_lines(values, first, start, count)
+            let _ = writeln!(Stream::Output, "{i:5}  slots from {start}, default {rest}");
+            key_lines(values, first, start, count);
         }
-        Form::Plain => writeln!(
-            Stream::Output,
-            "lookup {i} {first:016x} {start} {count} {kind} {payload:016x}"
-        ),
+        Form::Plain => {
+            let _ = writeln!(
+                Stream::Output,
+                "lookup {i} {first:016x} {start} {count} {kind} {payload:016x}"
+            );
+        }
     }
 }
 
 // The first n lookup tables, and the first m slots.
-pub fn lookup_lines(
-    form: Form,
-    lookups: &Lookups,
-    n: usize,
-    values: &Values,
-    m: usize,
-) -> fmt::Result {
-    title(form, "lookup tables", n)?;
+pub fn lookup_lines(form: Form, lookups: &Lookups, n: usize, values: &Values, m: usize) {
+    title(form, "lookup tables", n);
     let (tables, _) = lookups.as_chunks::<5>();
     for (i, table) in tables.iter().take(n).enumerate() {
-        lookup_line(form, i, table, values)?;
+        lookup_line(form, i, table, values);
     }
-    match form {
-        Form::Listing => Ok(()),
-        Form::Plain => pair_lines(form, "value", values, m),
+    if form == Form::Plain {
+        pair_lines(form, "value", values, m);
     }
 }
 
@@ -296,37 +273,35 @@ fn slots_of(kept: &Kept, at: usize, n: usize) -> u32 {
 }
 
 // The places of function f's n values.
-fn place_lines(form: Form, f: usize, kept: &Kept, at: usize, n: usize) -> fmt::Result {
+fn place_lines(form: Form, f: usize, kept: &Kept, at: usize, n: usize) {
     for (v, word) in kept.iter().skip(at).take(n).enumerate() {
-        match form {
-            Form::Listing => writeln!(Stream::Output, "  v{v}: {}", Word(*word))?,
-            Form::Plain => writeln!(Stream::Output, "place {f} {v} {word}")?,
-        }
+        let _ = match form {
+            Form::Listing => writeln!(Stream::Output, "  v{v}: {}", Word(*word)),
+            Form::Plain => writeln!(Stream::Output, "place {f} {v} {word}"),
+        };
     }
-    Ok(())
 }
 
-fn function_places(form: Form, f: usize, fact: Fact, kept: &Kept) -> fmt::Result {
+fn function_places(form: Form, f: usize, fact: Fact, kept: &Kept) {
     let State::Compiled { at, values, .. } = fact.state else {
-        return Ok(());
+        return;
     };
     if form == Form::Listing {
         let id = fact.id;
         let slots = slots_of(kept, at, values);
-        writeln!(
+        let _ = writeln!(
             Stream::Output,
             "\nplaces of function {f}, id {id}, slots {slots}"
-        )?;
+        );
     }
-    place_lines(form, f, kept, at, values)
+    place_lines(form, f, kept, at, values);
 }
 
 // The places of all functions.
-pub fn places(form: Form, facts: &Facts, kept: &Kept) -> fmt::Result {
+pub fn places(form: Form, facts: &Facts, kept: &Kept) {
     for (f, fact) in facts.iter().enumerate() {
         if let Some(fact) = fact {
-            function_places(form, f, *fact, kept)?;
+            function_places(form, f, *fact, kept);
         }
     }
-    Ok(())
 }

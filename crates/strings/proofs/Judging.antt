@@ -1,13 +1,13 @@
 -- What the verdict on one function says of 1, 2 and 3, and what is known of a function that none of them hits.
 use mathlib.Core.Path.{◌≡◌, refl, sym}
 use mathlib.Core.Bool.{Bool, true, false}
-use mathlib.Core.List.{List}
-use Prim.Native.Nat.{ℕ, ◌+◌, ◌<◌}
+use mathlib.Core.List.{List, [], ◌∷◌}
+use Prim.Native.Nat.{ℕ, ◌+◌, ◌≤◌, ◌<◌}
 use native.Mathlib.Omega.{arith}
-use lib.Dec.{leb}
+use lib.Dec.{leb, eqb}
 use lib.ListN.{get_or}
 use Rattle.base.specs.Choice.{pick}
-use Rattle.base.proofs.Numbers.{pick_true, pick-false}
+use Rattle.base.proofs.Numbers.{pick-both, pick_true, pick-false}
 use Rattle.grow.specs.declared.End.{End}
 use Rattle.grow.specs.Growing.{Grows}
 use Rattle.grow.proofs.Growing.{none, renamed}
@@ -24,7 +24,7 @@ use Rattle.judge.specs.Judged.{unfit}
 use Rattle.judge.proofs.Shapes.{shape_given, rows-placed}
 use Rattle.ready.specs.Ready.{Live}
 use Rattle.interning.specs.Interning.{strings_interned}
-use Rattle.strings.specs.Strings.{is_used, unfit_string}
+use Rattle.strings.specs.Strings.{is_used, unfit_string, Unfit, first_unfit}
 
 -- 4 to 7 count as none
 high : (a b c d : Bool) → ◌≡◌ {A = ℕ} (pick (leb (pick a (pick b (pick c (pick d 0 7) 6) 5) 4) 3) (pick a (pick b (pick c (pick d 0 7) 6) 5) 4) 0) 0
@@ -71,6 +71,26 @@ fit_instrs n ws e u word b l =
     let w : pool_from ws < 4294967296 = word in
     let r = rows-placed ws (shape_given ws p.1).rows b l.there l.is in
     omega (arith, h.edges_at, h.constants_at, h.pool_starts_at)
+
+-- a function's number is at most 3
+most : (u a b c : Bool) → pick u (pick a (pick b (pick c 0 3) 2) 1) 0 ≤ 3
+most true true true true = omega arith
+most true true true false = omega arith
+most true true false c = omega arith
+most true false b c = omega arith
+most false a b c = omega arith
+
+unfit_most : (n : ℕ) (ws : List ℕ) → unfit_string n ws ≤ 3
+unfolding unfit_string
+unfit_most n ws = most (is_used ws) (words_ok ws) (counts_ok n ws) (shape_ok ws)
+
+-- and so is that of the first unfit one
+pub first_most : (n k : ℕ) (fs : List (List ℕ)) → (first_unfit n k fs).number ≤ 3
+unfolding first_unfit
+first_most n k [] = omega arith
+first_most n k (f ∷ fs) =
+    pick-both (λ (u : Unfit). u.number ≤ 3) (eqb (unfit_string n f) 0) (first_unfit n (k + 1) fs) (record { number = unfit_string n f; index = k })
+    (first_most n (k + 1) fs) (unfit_most n f)
 
 -- the strings of an unused function are none
 pub unused_grows : (ws b : List ℕ) (e : End) → is_used ws ≡ false → Grows (λ g. pick (is_used ws) (strings_interned ws g) g) b e b e
