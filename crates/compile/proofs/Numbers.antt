@@ -3,9 +3,10 @@ use mathlib.Core.List.{List}
 use Prim.Native.Nat.{ℕ, ◌≤◌}
 use native.Mathlib.Omega.{arith}
 use lib.Dec.{eqb}
+use Rattle.base.proofs.Numbers.{pick-both}
 use Rattle.input.specs.Forms.{words_ok}
 use Rattle.judge.specs.Judged.{unfit}
-use Rattle.judge.proofs.Numbers.{at_most, unfit_most}
+use Rattle.judge.proofs.Numbers.{unfit_small}
 use Rattle.assign.specs.Walk.{slots_ok}
 use Rattle.lists.specs.declared.Used.{Used}
 use Rattle.first_checks.specs.Buffers.{Buffers}
@@ -15,9 +16,10 @@ use Rattle.compile.specs.Compile.{room_ok, refusal}
 pub refusal_small : (n : ℕ) (ws : List ℕ) (b : Buffers) (u : Used) → refusal n ws b u ≤ 9
 unfolding refusal
 refusal_small n ws b u =
-    at_most 9 (words_ok ws) _ 1
-    (at_most 9 (used_ok b u) _ 2
-    (at_most 9 (eqb (unfit n ws b.functions) 0) _ _
-    (at_most 9 (slots_ok n ws) _ 8 (at_most 9 (room_ok n ws b u) 0 9 (omega arith) (omega arith)) (omega arith)) (omega (arith, unfit_most n ws b.functions)))
+    let small = pick-both (λ (k : ℕ). k ≤ 9) in
+    small (words_ok ws) _ 1
+    (small (used_ok b u) _ 2
+    (small (eqb (unfit n ws b.functions) 0) _ _
+    (small (slots_ok n ws) _ 8 (small (room_ok n ws b u) 0 9 (omega arith) (omega arith)) (omega arith)) (omega (arith, unfit_small n ws b.functions)))
     (omega arith))
     (omega arith)

@@ -73,16 +73,13 @@ fit_instrs n ws e u word b l =
     omega (arith, h.edges_at, h.constants_at, h.pool_starts_at)
 
 -- a function's number is at most 3
-most : (u a b c : Bool) → pick u (pick a (pick b (pick c 0 3) 2) 1) 0 ≤ 3
-most true true true true = omega arith
-most true true true false = omega arith
-most true true false c = omega arith
-most true false b c = omega arith
-most false a b c = omega arith
-
 unfit_most : (n : ℕ) (ws : List ℕ) → unfit_string n ws ≤ 3
 unfolding unfit_string
-unfit_most n ws = most (is_used ws) (words_ok ws) (counts_ok n ws) (shape_ok ws)
+unfit_most n ws =
+    let small = pick-both (λ (k : ℕ). k ≤ 3) in
+    small (is_used ws) _ 0
+    (small (words_ok ws) _ 1 (small (counts_ok n ws) _ 2 (small (shape_ok ws) 0 3 (omega arith) (omega arith)) (omega arith)) (omega arith))
+    (omega arith)
 
 -- and so is that of the first unfit one
 pub first_most : (n k : ℕ) (fs : List (List ℕ)) → (first_unfit n k fs).number ≤ 3
